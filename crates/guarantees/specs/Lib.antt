@@ -1,0 +1,5 @@
+pub mod Refusals
+pub mod Freshness
+pub mod Isolation
+pub mod Sample
+pub mod Promises

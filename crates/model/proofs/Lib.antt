@@ -1,0 +1,12 @@
+pub mod Items
+pub mod Reader
+pub mod Folds
+pub mod Records
+pub mod Plain
+pub mod Tkeys
+pub mod Buffers
+pub mod CallLaws
+pub mod Running
+pub mod Requests
+pub mod Day
+pub mod Examples

@@ -1,0 +1,12 @@
+pub mod Octets
+pub mod Names
+pub mod Messages
+pub mod Tsig
+pub mod Tkey
+pub mod Pairs
+pub mod Tables
+pub mod Checks
+pub mod Judging
+pub mod Replies
+pub mod Calls
+pub mod Runs

@@ -23,11 +23,12 @@ use Rattle.model.specs.Tables.{noPair, pairAt, withClock, Names, namesOf, suffi
 use Rattle.model.specs.Calls.{NAME, TERM, TWIN, FULL, Result, unchanged, gate, withRow, freshPair, enrolled, enrolPassed, enrolOn}
 use Rattle.model.specs.Runs.{Has}
 use Rattle.model.proofs.Buffers.{overlay-before, overlay-there, overlay-length}
-use Rattle.guarantees.proofs.Tests.{each, allTrue, left, both, not-so, differs, by-check, by-known}
-use Rattle.guarantees.proofs.Rules.{PairOk, pair-sound, pair-complete, pair-later, issued-ok}
+use Rattle.model.proofs.Tests.{each, allTrue, left, both, not-so, differs, by-check, by-known}
+use Rattle.model.proofs.RuleFacts.{PairOk, pair-sound, pair-complete, pair-later}
+use Rattle.guarantees.proofs.Rules.{issued-ok}
 use Rattle.guarantees.proofs.OneCall.{pass-rules, pass-time}
-use Rattle.guarantees.proofs.NameLaws.{key-same}
-use Rattle.guarantees.proofs.Rows.{none-at, every-at, all-from, none-from, every-from, Sized, next, suffix, tests, suffix-rule, short-suffix, other-suffix, last-serial}
+use Rattle.model.proofs.NameLaws.{key-same}
+use Rattle.model.proofs.Rows.{none-at, every-at, all-from, none-from, every-from, Sized, next, suffix, tests, suffix-rule, short-suffix, other-suffix, last-serial}
 use Rattle.guarantees.proofs.Made.{Fresh, Origin, Event, is-it, no-key, still}
 
 module _ (t : Table) (time : ℕ) (s : List ℕ) (lifetime fresh : ℕ) (z : Sized t) where

@@ -31,10 +31,10 @@ use Rattle.model.specs.Calls.{TIME, SIZE, OFFER, NOTQUERY, ROOM, Result, refusa
 use Rattle.model.specs.Runs.{Operation, enrol, call, operated, operatedAll, Has, keyRaised, keyMade, listed, namesMade, NoneSame, Distinct}
 use Rattle.model.proofs.CallLaws.{message-size, message-offer, message-response, message-room, message-done}
 use Rattle.guarantees.specs.Freshness.{after, madeBy, Ask, asks, Decides, Renewed, AtOnce, Demand2}
-use Rattle.guarantees.proofs.Tests.{both, either, by-check}
+use Rattle.model.proofs.Tests.{both, either, by-check}
 use Rattle.guarantees.proofs.Moves.{Grantable, Allows, allows}
-use Rattle.guarantees.proofs.NameLaws.{same-sym}
-use Rattle.guarantees.proofs.Rows.{Sized, suffix, next, few}
+use Rattle.model.proofs.NameLaws.{same-sym}
+use Rattle.model.proofs.Rows.{Sized, suffix, next, few}
 use Rattle.guarantees.proofs.Made.{Used, Fresh, Grows, fresh-back, Known, Origin, Event, owner-below, call-made}
 use Rattle.guarantees.proofs.Enrolment.{enrol-made}
 

@@ -1,11 +1,8 @@
-pub mod Tests
 pub mod Rules
 pub mod Moves
 pub mod OneCall
 pub mod Places
 pub mod Runs
-pub mod NameLaws
-pub mod Rows
 pub mod Made
 pub mod Enrolment
 pub mod Freshness

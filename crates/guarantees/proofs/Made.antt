@@ -25,16 +25,16 @@ use Rattle.model.specs.Names.{afterLabel, sameName, keyName}
 use Rattle.model.specs.Messages.{Message, readMessage}
 use Rattle.model.specs.Tsig.{Signature, unsigned, misplaced, signed, signature}
 use Rattle.model.specs.Pairs.{withKeys, made, revokedKey, issued, revokedKeys, revoked, renewedKeys, renewed, adoptedKeys, adopted, deleted, withdrawnKeys, withdrawn}
-use Rattle.model.specs.Tables.{noPair, pairAt, withPair, Names, namesOf, suffixAt, firstFrom, rowNamed, tableRules}
+use Rattle.model.specs.Tables.{noPair, pairAt, withPair, Names, namesOf, suffixAt, tableRules}
 use Rattle.model.specs.Judging.{holder, heldPair, changed}
 use Rattle.model.specs.Calls.{Result, unchanged, gate, clockAt, Call, issue, revoke, look, message, timeOf, sizeOk, signedBy, readBy, octetsOwner, numberOwner, ownerOf, stepOf, holderAt, servedBy, called}
 use Rattle.model.specs.Runs.{Has, keyRaised}
 use Rattle.model.proofs.CallLaws.{refused-first}
-use Rattle.guarantees.proofs.Tests.{left, right, either, not-so, differs}
+use Rattle.model.proofs.Tests.{left, right, either, not-so, differs}
 use Rattle.guarantees.proofs.Moves.{Moves, stays, issues, revokes, decides, moves}
 use Rattle.guarantees.proofs.OneCall.{pass-rules, owned, called-by, after-rules, after-names, served-size, served-other, pairs-at, names-at}
-use Rattle.guarantees.proofs.NameLaws.{key-same}
-use Rattle.guarantees.proofs.Rows.{Sized, next, suffix, few, other-suffix, last-serial}
+use Rattle.model.proofs.NameLaws.{key-same}
+use Rattle.model.proofs.Rows.{Sized, next, suffix, few, other-suffix, last-serial, row-below}
 
 -- ── Names that were made, and names that were not ───────────────────────────────────────────────────────────────────
 
@@ -182,23 +182,6 @@ unfolding heldPair
 step-onward number x p c = moved-onward p (timeOf c) (stepOf (holder number x p) c .pair) (moves (holder number x p) c)
 
 -- the pair that a call belongs to is enrolled
-first-below : (test : ℕ → Bool) (n i j : ℕ) → firstFrom test n i ≡ some j → j < i + n
-unfolding firstFrom
-first-below test zero i j e = absurd (Option·none-ne-some j e)
-first-below test (suc n) i j e = go (test i) e (first-below test n (suc i) j)
-  where
-    go :
-        (b : Bool)
-        → _≡_ {A = Option ℕ} (elim b [ true ↦ some i | false ↦ firstFrom test n (suc i) ]) (some j)
-        → (firstFrom test n (suc i) ≡ some j → j < suc i + n)
-        → j < i + suc n
-    go true e f = let w : i ≡ j = Option·some-injective i j e in omega arith
-    go false e f = let w : j < suc i + n = f e in omega arith
-
-row-below : (n : Names) (among : ℕ) (name : List ℕ) (j : ℕ) → rowNamed n among name ≡ some j → j < among
-unfolding rowNamed
-row-below n among name j e = let h = first-below (λ i. sameName (suffixAt n i) name) among 0 j e in omega arith
-
 octets-below : (n : Names) (octets : List ℕ) (j : ℕ) → octetsOwner n octets ≡ some j → j < n .count
 unfolding octetsOwner
 octets-below n octets j = either (λ (o : Option ℕ). o ≡ some j → j < n .count) (sizeOk octets) (λ e. by-read (readMessage octets)) (λ e q. absurd (Option·none-ne-some j q))

@@ -17,12 +17,12 @@ use Rattle.model.specs.declared.Decision.the-variants.{Unsigned, Refused, Passe
 use Rattle.model.specs.Names.{outputOf, algorithmNamed, algorithmNumbered}
 use Rattle.model.specs.Messages.{Record, Message, readMessage}
 use Rattle.model.specs.Tsig.{Tsig, Signature, unsigned, misplaced, signed, signature}
-use Rattle.model.specs.Tkey.{Tkey, modeOf, namesOld, tkeyRequest, onlyTkey, onlyKey}
+use Rattle.model.specs.Tkey.{Tkey, modeOf, namesOld, tkeyRequest, onlyTkey, onlyKey, contentsOf}
 use Rattle.model.specs.Pairs.{issued, revoked}
-use Rattle.model.specs.Judging.{Holder, nobody, holder, heldNumber, heldSuffix, heldPair, adoptedOf, waitingOf, keyIf, holds, isNamed, isKey, signerOf, Judged, unknown, Given, inTime, step1, step2, step3, step4, step5, step6, step7, step8, step9, macFits, isOff, isRevoked, goodInterval, canRenew, renewalOf, adoptionOf, deletionOf, decideTkey, decide, judge, changed}
+use Rattle.model.specs.Judging.{Holder, nobody, holder, heldNumber, heldSuffix, heldPair, adoptedOf, waitingOf, keyIf, holds, isNamed, isKey, signerOf, Judged, unknown, Given, inTime, step1, step2, step3, step4, step5, step6, step7, step8, step9, macFits, isOff, isRevoked, goodInterval, canRenew, renewalOf, adoptionOf, deletionOf, decideTkey, decide, judgeRead, judge, changed}
 use Rattle.model.specs.Calls.{DONE, SIZE, OFFER, FORMAT, NOTQUERY, ROOM, NOPAIR, NOKEY, SPENT, TERM, Outcome, refusal, done, Step, refuses, leaves, isHeld, issueStep, revokeStep, sizeOk, found, lookedUp, lookStep, offerOk, roomFor, replyTo, replied, answered, messageStep, Call, issue, revoke, look, message, timeOf, stepOf}
 use Rattle.guarantees.specs.Refusals.{isOne, ownRefusals}
-use Rattle.guarantees.proofs.Tests.{left, either, by-check, by-read, by-some, by-known}
+use Rattle.model.proofs.Tests.{left, either, by-check, by-read, by-some, by-known}
 
 -- ── What is decided ─────────────────────────────────────────────────────────────────────────────────────────────────
 
@@ -62,7 +62,7 @@ module _ (suffix : List ℕ) (p : Pair) (g : Given) (m : Message) (a : Key) (sig
   fails : (n : ℕ) → Ok (Failed n)
   fails n = record { allowed = tt }
 
-  allows-renewal : (k : Tkey) → onlyTkey m ≡ some k → Ok (renewalOf suffix p a (g .offer) m k)
+  allows-renewal : (k : Tkey) → onlyTkey m ≡ some k → Ok (renewalOf suffix p a (g .offer) (onlyKey m) k)
   unfolding renewalOf canRenew
   allows-renewal k is =
       by-check Ok Failed _ (fails _) (isKey (k .oldName) (k .oldAlgorithm) suffix a) λ _.
@@ -97,21 +97,21 @@ module _ (suffix : List ℕ) (p : Pair) (g : Given) (m : Message) (a : Key) (sig
       by-check Ok Failed _ (fails _) (holds (isNamed (k .name) suffix) (waitingOf (p .keys))) λ _.
       record { allowed = tt }
 
-  allows-mode : (k : Tkey) → onlyTkey m ≡ some k → (mode : Mode) → Ok (step9 mode (renewalOf suffix p a (g .offer) m k) (adoptionOf suffix p a k) (deletionOf suffix p a k))
+  allows-mode : (k : Tkey) → onlyTkey m ≡ some k → (mode : Mode) → Ok (step9 mode (renewalOf suffix p a (g .offer) (onlyKey m) k) (adoptionOf suffix p a k) (deletionOf suffix p a k))
   allows-mode k is Renewal = allows-renewal k is
   allows-mode k is Adoption = allows-adoption k
   allows-mode k is Deletion = allows-deletion k
   allows-mode k is Reserved = record { allowed = tt }
   allows-mode k is Unsupported = record { allowed = tt }
 
-  allows-tkey : (k : Option Tkey) → onlyTkey m ≡ k → Ok (step6 k (decideTkey suffix p a g m))
+  allows-tkey : (k : Option Tkey) → onlyTkey m ≡ k → Ok (step6 k (decideTkey suffix p a g (onlyKey m)))
   unfolding decideTkey step7
   allows-tkey none is = record { allowed = tt }
   allows-tkey (some k) is =
       either Ok (isRevoked a (g .now) && not (namesOld (modeOf (k .mode)))) (λ _. record { allowed = tt }) (λ _. allows-mode k is (modeOf (k .mode)))
 
-  allows-decide : (s : Tsig) → Ok (decide suffix p a g m s)
-  unfolding decide step4 step5 step7 step8
+  allows-decide : (s : Tsig) → Ok (decide suffix p a g (contentsOf m) s)
+  unfolding contentsOf decide step4 step5 step7 step8
   allows-decide s =
       either Ok (macFits (outputOf (a .algorithm)) (length (s .mac)))
       (λ _.
@@ -137,7 +137,7 @@ signer-held (holder number suffix p) s a e = key-if (isKey (s .name) (s .algorit
 -- Whatever is decided of a pair rests on what it must.
 module _ (h : Holder) (g : Given) (m : Message) where
   abbrev judged : Tsig → Key → Judged
-  judged s a = record { decision = decide (heldSuffix h) (heldPair h) a g m s; pair = heldNumber h; serial = a .serial }
+  judged s a = record { decision = decide (heldSuffix h) (heldPair h) a g (contentsOf m) s; pair = heldNumber h; serial = a .serial }
 
   abbrev Right : Judged → Type 0
   Right j = Allows m (heldPair h) (j .decision)
@@ -147,14 +147,14 @@ module _ (h : Holder) (g : Given) (m : Message) where
   by-key s none e = record { allowed = tt }
   by-key s (some a) e = either Right (inTime a (g .now)) (λ _. allows-decide (heldSuffix h) (heldPair h) g m a (signer-held h s a e) s) (λ _. record { allowed = tt })
 
-  by-signature : (s : Signature) → Right (step1 s (step2 m) λ s. step3 (signerOf h s) (g .now) (judged s))
+  by-signature : (s : Signature) → Right (step1 s (step2 (tkeyRequest m)) λ s. step3 (signerOf h s) (g .now) (judged s))
   unfolding unknown step2
   by-signature misplaced = record { allowed = tt }
   by-signature unsigned = either Right (tkeyRequest m) (λ _. record { allowed = tt }) (λ _. record { allowed = tt })
   by-signature (signed s) = by-key s (signerOf h s) refl
 
   pub allows : Allows m (heldPair h) (judge h g m .decision)
-  unfolding judge
+  unfolding judge judgeRead contentsOf
   allows = by-signature (signature (m .records))
 
 -- ── What a call makes of its pair ───────────────────────────────────────────────────────────────────────────────────

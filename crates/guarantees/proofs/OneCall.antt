@@ -22,8 +22,9 @@ use Rattle.model.specs.Checks.{check}
 use Rattle.model.specs.Calls.{TABLE, TIME, CLOCK, Result, unchanged, timeFits, timeGoesOn, timeGate, gate, clockAt, Call, timeOf, ownerOf, stepOf, holderAt, servedBy, called}
 use Rattle.model.specs.Runs.{Frame, frameOf, belongs}
 use Rattle.model.proofs.CallLaws.{refused-first, passes-first}
-use Rattle.guarantees.proofs.Tests.{True, each, allTrue, left, right, both}
-use Rattle.guarantees.proofs.Rules.{PairOk, pair-sound, pair-complete, pair-later, issued-ok, revoked-ok, renewed-ok, adopted-ok, deleted-ok, withdrawn-ok}
+use Rattle.model.proofs.Tests.{True, each, allTrue, left, right, both}
+use Rattle.model.proofs.RuleFacts.{PairOk, pair-sound, pair-complete, pair-later}
+use Rattle.guarantees.proofs.Rules.{issued-ok, revoked-ok, renewed-ok, adopted-ok, deleted-ok, withdrawn-ok}
 use Rattle.guarantees.proofs.Moves.{Allows, Moves, stays, issues, revokes, decides, moves}
 
 -- ── A pair keeps its rules ──────────────────────────────────────────────────────────────────────────────────────────

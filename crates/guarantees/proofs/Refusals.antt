@@ -20,7 +20,7 @@ use Rattle.model.specs.Runs.{Operation, enrol, call, operated}
 use Rattle.model.proofs.Buffers.{put-length}
 use Rattle.model.proofs.CallLaws.{holderBy, refused-first, passes-first, leaves-it, buffer-refused}
 use Rattle.guarantees.specs.Refusals.{isOne, ownRefusals, firstRefusals, refusalsOf, operationTime, movedBy, Safe, Demand1}
-use Rattle.guarantees.proofs.Tests.{left, by-check, by-read, by-known}
+use Rattle.model.proofs.Tests.{left, by-check, by-read, by-known}
 use Rattle.guarantees.proofs.OneCall.{clock-at, sets-clock, clockBy}
 use Rattle.guarantees.proofs.Moves.{Ends, refused, finished, ends}
 

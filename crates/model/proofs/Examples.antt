@@ -1,10 +1,11 @@
--- Worked examples of the definitions, computed by antt: names, TSIGs out of place, TKEYs, each kind of reply in full octets, and runs. Assumes nothing.
+-- Worked examples of the definitions, computed by antt: names, TSIGs out of place, MACs, owners, each kind of reply in full octets, and runs. Assumes
+-- nothing.
 use Prim.Native.Nat.{ℕ, _+_}
 use mathlib.Core.Path.{_≡_, refl}
-use mathlib.Core.Bool.{true, false}
+use mathlib.Core.Bool.{Bool, true, false}
 use mathlib.Core.Option.{Option, none, some}
 use mathlib.Core.List.{List, [], _∷_, _++_}
-use lib.ListN.{replicate}
+use lib.ListN.{replicate, getElem?}
 use lib.IntN.{pos}
 use Rattle.model.specs.declared.Algorithm.the-variants.{Sha256}
 use Rattle.model.specs.declared.Keys.{Keys}
@@ -13,11 +14,11 @@ use Rattle.model.specs.Octets.{be16, Reading, stops, reads}
 use Rattle.model.specs.Names.{readName, keyName, algorithmName}
 use Rattle.model.specs.Messages.{Message, readMessage}
 use Rattle.model.specs.Tsig.{Signature, unsigned, misplaced, signed, signature}
-use Rattle.model.specs.Tables.{pairAt}
+use Rattle.model.specs.Tables.{namesOf, pairAt}
 use Rattle.model.specs.Replies.{recordOctets, tkeyData}
-use Rattle.model.specs.Calls.{Result, issue, revoke, look, message, emptyTable}
+use Rattle.model.specs.Calls.{Result, emptyTable, issue, look, message, ownerOf}
 use Rattle.model.specs.Runs.{Operation, enrol, call, operated}
-use Rattle.model.proofs.Requests.{suffix, otherSuffix, header, question, rootQuery, stamp, tsig, ordinary, old, keyRecord, renewalBy, tkeyBy, adoptionBy}
+use Rattle.model.proofs.Requests.{suffix, otherSuffix, header, question, rootQuery, stampOf, stamp, tsig, ordinary, old, keyRecord, renewalBy, tkeyBy, adoptionBy}
 use Rattle.model.proofs.Running.{after}
 use Rattle.model.proofs.Day.{opening, at, key}
 
@@ -96,6 +97,38 @@ misplacedOnes =
 pub misplaced-tsigs : AllMisplaced misplacedOnes
 unfolding misplacedOnes after
 misplaced-tsigs = (refl, (refl, (refl, (refl, (refl, (refl, (refl, (refl, tt))))))))
+
+-- ── MACs (01, "Judging", step 4) ────────────────────────────────────────────────────────────────────────────────────
+
+-- A query at 1000 whose MAC has this many octets, with this verdict: the TSIG error, and the reply's RCODE if there is a reply.
+abbrev macAnswer : Result → ℕ × Option ℕ
+macAnswer r = (r .outcome .answer .error, getElem? (r .outcome .reply) 3)
+
+abbrev macOf : ℕ → Bool → ℕ × Option ℕ
+macOf size good =
+    macAnswer
+    (operated (after (emptyTable 1000) opening) (call (message 1000 good [] 512 (signedBy 255 0 (algorithmName Sha256 ++ stampOf size 1000)))))
+
+-- 15 octets are too few for hmac-sha256 and 33 too many, whatever the verdict; of 16 and 32 the verdict decides. 16 is BADSIG.
+pub macs :
+    (macOf 15 true ≡ (0, some 1)) × (macOf 33 false ≡ (0, some 1)) × (macOf 16 true ≡ (0, none)) × (macOf 32 true ≡ (0, none)) × (macOf 32 false ≡ (16, some 9))
+unfolding opening after
+macs = (refl, refl, refl, refl, refl)
+
+-- ── Whose a message is (01, "The desk's business") ──────────────────────────────────────────────────────────────────
+
+abbrev ownerIn : List ℕ → Option ℕ
+ownerIn octets = ownerOf (namesOf (after (emptyTable 1000) opening)) (look octets)
+
+-- The pair's, also where its key 77 was never made; of another suffix, with no TSIG, with a misplaced one, or with octets left over, nobody's.
+pub owners :
+    (ownerIn (ordinary 77 1000) ≡ some 0)
+    × (ownerIn (header 0 1 ++ (rootQuery ++ recordOctets (keyName 1 otherSuffix) 250 255 0 (algorithmName Sha256 ++ stamp 1000))) ≡ none)
+    × (ownerIn (header 0 0 ++ rootQuery) ≡ none)
+    × (ownerIn (signedBy 1 0 (algorithmName Sha256 ++ stamp 1000)) ≡ none)
+    × (ownerIn (ordinary 1 1000 ++ (0 ∷ [])) ≡ none)
+unfolding opening after
+owners = (refl, refl, refl, refl, refl)
 
 -- ── Replies in full octets (01, "The reply") ────────────────────────────────────────────────────────────────────────
 

@@ -1,10 +1,14 @@
+pub mod Tests
+pub mod NameLaws
+pub mod RuleFacts
+pub mod Rows
+pub mod Buffers
 pub mod Items
 pub mod Reader
 pub mod Folds
 pub mod Records
 pub mod Plain
 pub mod Tkeys
-pub mod Buffers
 pub mod CallLaws
 pub mod Running
 pub mod Requests

@@ -1,0 +1,57 @@
+-- `messages::read_question` meets its contract. Assumes nothing.
+use native.Mathlib.Omega.{arith}
+use Rattle.messages.proofs.QuestionLaws.{q-within, q-bad, q-cut, q-whole}
+use borrow.Author.Needs.{needs}
+use Rattle.messages.proofs.read_question.Statement.{statement}
+use Rattle.messages.proofs.read_question.Tie as tie
+
+read-name-requires : tie.Need-read-name-requires
+read-name-requires c κs = search needs
+
+enum-known-place : tie.Need-enum-known-place
+enum-known-place c = search needs
+
+enum-known-len : tie.Need-enum-known-len
+enum-known-len c = search needs
+
+sub-if1 : tie.Need-sub-if1
+sub-if1 c = q-within _ _ _ _ (c .before .before .before .read-name .ensures) _ _ (c .before .len .given .1)
+
+returns : tie.Need-returns
+returns c = q-cut _ _ _ _ (c .before .before .before .before .read-name .ensures) _ _ (c .before .before .len .given .1) (omega arith)
+
+u16-at-requires : tie.Need-u16-at-requires
+u16-at-requires c κs = search needs
+
+add-u16-at : tie.Need-add-u16-at
+add-u16-at c = search needs
+
+u16-at-requires-2 : tie.Need-u16-at-requires-2
+u16-at-requires-2 c κs = search needs
+
+add-t15 : tie.Need-add-t15
+add-t15 c = search needs
+
+returns-2 : tie.Need-returns-2
+returns-2 c = q-bad _ _ _ _ (c .before .before .before .read-name .ensures) _ (c .before .place .given .1)
+
+returns-3 : tie.Need-returns-3
+returns-3 c =
+    q-whole _ _ _ _ (c .before .before .before .before .before .before .read-name .ensures) _ _ (c .before .before .before .before .len .given .1)
+    (omega arith) _ _ (c .before .u16-at .ensures) (c .u16-at2 .ensures)
+
+pub read-question-spec : {M : Type 1} → statement M
+read-question-spec =
+    tie.close
+    (tie.spec
+    read-name-requires
+    enum-known-place
+    enum-known-len
+    sub-if1
+    returns
+    u16-at-requires
+    add-u16-at
+    u16-at-requires-2
+    add-t15
+    returns-2
+    returns-3)

@@ -1,0 +1,3 @@
+pub mod Record
+pub mod Question
+pub mod Scan

@@ -1,0 +1,144 @@
+-- Laws of names: when two names are the same, that a serial's digits give it back, and that keys of other serials or other suffixes have other
+-- names. Assumes nothing.
+use mathlib.Core.Path.{_≡_, refl, sym, ap, ap₂, _∙_}
+use mathlib.Core.Bool.{Bool, true, false, _&&_, false≢true}
+use mathlib.Core.Logic.{_≢_}
+use mathlib.Core.List.{List, [], _∷_, _++_}
+use Prim.Native.Nat.{ℕ, zero, suc, _+_, _-_, _*_, _/_, _%_, _^_, _≤_, _<_}
+use native.Mathlib.Omega.{arith}
+use lib.Dec.{eqb}
+use lib.ListN.{length, length-append}
+use borrow.Author.Tests.{eqb-true, eqb-false, eq-eqb, ne-eqb, lt-leb}
+use Rattle.model.specs.Names.{lowerOf, sameName, digitsOf, decimal, serialLabel, keyName}
+use Rattle.model.proofs.Tests.{left, right, both}
+
+-- ── Names that are the same ─────────────────────────────────────────────────────────────────────────────────────────
+
+pub same-length : (a b : List ℕ) → sameName a b ≡ true → length a ≡ length b
+unfolding sameName
+same-length [] [] e = refl
+same-length [] (y ∷ b) e = absurd (false≢true e)
+same-length (x ∷ a) [] e = absurd (false≢true e)
+same-length (x ∷ a) (y ∷ b) e = ap suc (same-length a b (right (eqb (lowerOf x) (lowerOf y)) (sameName a b) e))
+
+pub same-split : (a b x y : List ℕ) → length a ≡ length b → sameName (a ++ x) (b ++ y) ≡ true → (sameName a b ≡ true) × (sameName x y ≡ true)
+unfolding sameName
+same-split [] [] x y n e = (refl, e)
+same-split [] (c ∷ b) x y n e = absurd (omega arith)
+same-split (c ∷ a) [] x y n e = absurd (omega arith)
+same-split (c ∷ a) (d ∷ b) x y n e =
+    let t = eqb (lowerOf c) (lowerOf d) in
+    let r = same-split a b x y (omega arith) (right t (sameName (a ++ x) (b ++ y)) e) in
+    (both t (sameName a b) (left t (sameName (a ++ x) (b ++ y)) e) (r .0), r .1)
+
+pub same-sym : (a b : List ℕ) → sameName a b ≡ sameName b a
+unfolding sameName
+same-sym [] [] = refl
+same-sym [] (y ∷ b) = refl
+same-sym (x ∷ a) [] = refl
+same-sym (x ∷ a) (y ∷ b) = ap₂ (λ (s t : Bool). s && t) (swap (lowerOf x) (lowerOf y)) (same-sym a b)
+  where
+    swap : (m n : ℕ) → eqb m n ≡ eqb n m
+    swap m n = go (eqb m n) refl
+      where
+        go : (b : Bool) → eqb m n ≡ b → eqb m n ≡ eqb n m
+        go true e = e ∙ sym (eq-eqb n m (sym (eqb-true m n e)))
+        go false e = e ∙ sym (ne-eqb n m (λ q. eqb-false m n e (sym q)))
+
+-- ── Digits ──────────────────────────────────────────────────────────────────────────────────────────────────────────
+
+-- an octet below A is its own lower case
+low : (x : ℕ) → x < 65 → lowerOf x ≡ x
+unfolding lowerOf
+low x h = simp (lt-leb 65 x h)
+
+abbrev Low : List ℕ → Type 0
+Low [] = Unit {0}
+Low (x ∷ l) = (x < 65) × Low l
+
+low-append : (a b : List ℕ) → Low a → Low b → Low (a ++ b)
+low-append [] b p q = q
+low-append (x ∷ a) b p q = (p .0, low-append a b (p .1) q)
+
+low-same : (a b : List ℕ) → Low a → Low b → sameName a b ≡ true → a ≡ b
+unfolding sameName
+low-same [] [] p q e = refl
+low-same [] (y ∷ b) p q e = absurd (false≢true e)
+low-same (x ∷ a) [] p q e = absurd (false≢true e)
+low-same (x ∷ a) (y ∷ b) p q e =
+    let t = eqb (lowerOf x) (lowerOf y) in
+    let h : x ≡ y = sym (low x (p .0)) ∙ eqb-true (lowerOf x) (lowerOf y) (left t (sameName a b) e) ∙ low y (q .0) in
+    ap₂ (λ (c : ℕ) (l : List ℕ). c ∷ l) h (low-same a b (p .1) (q .1) (right t (sameName a b) e))
+
+digits-low : (k n : ℕ) → Low (digitsOf k n)
+unfolding digitsOf
+digits-low zero n = tt
+digits-low (suc k) n = go (eqb n 0) (digits-low k (n / 10))
+  where
+    go : (b : Bool) → Low (digitsOf k (n / 10)) → Low (elim b [ true ↦ [] | false ↦ digitsOf k (n / 10) ++ ((48 + n % 10) ∷ []) ])
+    go true r = tt
+    go false r = low-append (digitsOf k (n / 10)) ((48 + n % 10) ∷ []) r (omega arith, tt)
+
+-- the number that digits stand for
+abbrev value : ℕ → List ℕ → ℕ
+value acc [] = acc
+value acc (d ∷ ds) = value (acc * 10 + (d - 48)) ds
+
+value-snoc : (acc : ℕ) (ds : List ℕ) (d : ℕ) → value acc (ds ++ (d ∷ [])) ≡ value acc ds * 10 + (d - 48)
+value-snoc acc [] d = refl
+value-snoc acc (x ∷ ds) d = value-snoc (acc * 10 + (x - 48)) ds d
+
+digits-value : (k n : ℕ) → n ≤ k → value 0 (digitsOf k n) ≡ n
+unfolding digitsOf
+digits-value zero n h = omega arith
+digits-value (suc k) n h = go (eqb n 0) refl (digits-value k (n / 10))
+  where
+    go : (b : Bool) → eqb n 0 ≡ b → (n / 10 ≤ k → value 0 (digitsOf k (n / 10)) ≡ n / 10) → value 0 (elim b [ true ↦ [] | false ↦ digitsOf k (n / 10) ++ ((48 + n % 10) ∷ []) ]) ≡ n
+    go true e f = sym (eqb-true n 0 e)
+    go false e f =
+        let z : n ≢ 0 = eqb-false n 0 e in
+        let r : value 0 (digitsOf k (n / 10)) ≡ n / 10 = f (omega arith) in
+        value-snoc 0 (digitsOf k (n / 10)) (48 + n % 10) ∙ ap (λ (v : ℕ). v * 10 + (48 + n % 10 - 48)) r ∙ omega arith
+
+pub decimal-inj : (a b : ℕ) → decimal a ≡ decimal b → a ≡ b
+unfolding decimal
+decimal-inj a b e = sym (digits-value a a (omega arith)) ∙ ap (value 0) e ∙ digits-value b b (omega arith)
+
+-- a number of at most k digits
+abbrev Short : ℕ → ℕ → Type 0
+Short zero n = n ≡ 0
+Short (suc k) n = Short k (n / 10)
+
+digits-short : (j k n : ℕ) → Short j n → length (digitsOf k n) ≤ j
+unfolding digitsOf
+digits-short j zero n h = omega arith
+digits-short zero (suc k) n h = go (eqb n 0) refl
+  where
+    go : (b : Bool) → eqb n 0 ≡ b → length {A = ℕ} (elim b [ true ↦ [] | false ↦ digitsOf k (n / 10) ++ ((48 + n % 10) ∷ []) ]) ≤ 0
+    go true e = omega arith
+    go false e = absurd (eqb-false n 0 e h)
+digits-short (suc j) (suc k) n h = go (eqb n 0) (digits-short j k (n / 10) h)
+  where
+    go : (b : Bool) → length (digitsOf k (n / 10)) ≤ j → length {A = ℕ} (elim b [ true ↦ [] | false ↦ digitsOf k (n / 10) ++ ((48 + n % 10) ∷ []) ]) ≤ suc j
+    go true r = omega arith
+    go false r = rw (length-append (digitsOf k (n / 10)) ((48 + n % 10) ∷ [])) (omega arith)
+
+pub decimal-short : (n : ℕ) → n < 2 ^ 32 → length (decimal n) ≤ 10
+unfolding decimal
+decimal-short n h = digits-short 10 n n (omega arith)
+
+-- ── Names of keys ───────────────────────────────────────────────────────────────────────────────────────────────────
+
+-- the same name, the same serial and the same suffix
+pub key-same : (a b : ℕ) (x y : List ℕ) → a < 2 ^ 32 → b < 2 ^ 32 → sameName (keyName a x) (keyName b y) ≡ true → (a ≡ b) × (sameName x y ≡ true)
+unfolding keyName serialLabel sameName decimal
+key-same a b x y ha hb e =
+    let la = length (decimal a) in
+    let lb = length (decimal b) in
+    let sa : la ≤ 10 = decimal-short a ha in
+    let sb : lb ≤ 10 = decimal-short b hb in
+    let t = eqb (lowerOf la) (lowerOf lb) in
+    let rest = sameName (decimal a ++ x) (decimal b ++ y) in
+    let n : la ≡ lb = sym (low la (omega arith)) ∙ eqb-true (lowerOf la) (lowerOf lb) (left t rest e) ∙ low lb (omega arith) in
+    let s = same-split (decimal a) (decimal b) x y n (right t rest e) in
+    (decimal-inj a b (low-same (decimal a) (decimal b) (digits-low a a) (digits-low b b) (s .0)), s .1)

@@ -1,0 +1,5 @@
+-- The laws that proofs of this crate cite.
+pub mod Steps
+pub mod Laws
+pub mod Same
+pub mod Wire

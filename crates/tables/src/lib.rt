@@ -1,0 +1,218 @@
+// The table: its rows, the search by suffix, and the table rules. Nothing above this crate knows where a row lies.
+use model::Keys;
+use model::Pair;
+use model::Table;
+ghost use mathlib.Core.Path.{_≡_};
+ghost use Prim.Native.Nat.{ℕ, _+_, _≤_};
+ghost use lib.ListN.{length};
+ghost use Rattle.model.specs.Octets.{overlay};
+ghost use Rattle.model.specs.Tables.{noPair, pairAt, withPair, withClock, suffixAt, rowNamed, suffixOk, suffixRule, namesRule, tableRules};
+ghost use Rattle.model.specs.Calls.{emptyTable, withRow};
+ghost use Rattle.tables.specs.Rows.{namesIn, rowOf, Room};
+
+// What a search by suffix found.
+pub enum Found {
+    Row(usize),
+    Nowhere,
+}
+
+// What stands in a row that is not in use.
+fn no_pair() -> Pair
+    ensures { λ r. ⌜ r ≡ noPair ⌝ }
+{
+    Pair {
+        lifetime: 0,
+        fresh: 0,
+        next_serial: 0,
+        keys: Keys::Empty,
+    }
+}
+
+// A table with no pairs.
+pub fn empty_table(clock: u64) -> Table
+    ensures { λ r. ⌜ r ≡ emptyTable clock ⌝ }
+{
+    let none = no_pair();
+    Table {
+        clock: clock,
+        count: 0,
+        suffixes: [0u8; 8192],
+        lengths: [0usize; 64],
+        pairs: [none; 64],
+    }
+}
+
+pub fn pair_at(t: Table, i: usize) -> Pair
+    ensures { λ r. ⌜ r ≡ pairAt t i ⌝ }
+{
+    if 64 <= i {
+        return no_pair();
+    }
+    t.pairs[i]
+}
+
+pub fn with_pair(t: Table, i: usize, p: Pair) -> Table
+    ensures { λ r. ⌜ r ≡ withPair t i p ⌝ }
+{
+    if 64 <= i {
+        return t;
+    }
+    let mut u = t;
+    u.pairs[i] = p;
+    u
+}
+
+pub fn with_clock(t: Table, time: u64) -> Table
+    ensures { λ r. ⌜ r ≡ withClock t time ⌝ }
+{
+    let mut u = t;
+    u.clock = time;
+    u
+}
+
+fn write_suffix(all: &mut [u8; 8192], at: usize, suffix: &[u8])
+    requires { ⌜ (length (now all) ≡ 8192) × (at + length (now suffix) ≤ 8192) ⌝ }
+    ensures { λ _. ⌜ now (all .exit) ≡ overlay (now (suffix .entry)) at (now (all .entry)) ⌝ }
+{
+    octets::all_into(&mut all[..], at, suffix);
+}
+
+// The table with one pair more, in the first row that is not in use, where there is room for it.
+pub fn with_row(t: Table, suffix: &[u8], p: Pair) -> Table
+    ensures { λ r. ⌜ (Room t (now (suffix .entry)) → r ≡ withRow t (now (suffix .entry)) p) ⌝ }
+{
+    let i = t.count;
+    if 64 <= i {
+        return t;
+    }
+    if 128 < suffix.len() {
+        return t;
+    }
+    let mut u = t;
+    write_suffix(&mut u.suffixes, i * 128, suffix);
+    u.lengths[i] = suffix.len();
+    u.pairs[i] = p;
+    u.count = i + 1;
+    u
+}
+
+// The suffix of row i, lent. A length that leads past the end of the octets is cut there, and a row past the last has none.
+pub fn suffix_at<'a>(suffixes: &'a [u8; 8192], lengths: &'a [usize; 64], i: usize) -> &'a [u8]
+    ensures { λ r. ⌜ ((count : ℕ) → now r ≡ suffixAt (namesIn count (now (suffixes .entry)) (now (lengths .entry))) i) ⌝ }
+{
+    let all = &suffixes[..];
+    let sizes = &lengths[..];
+    if 64 <= i {
+        return &all[8192..];
+    }
+    let at = i * 128;
+    let n = sizes[i];
+    if 8192 - at < n {
+        return &all[at..];
+    }
+    let end = at + n;
+    &all[at..end]
+}
+
+// The first row, of the first `among`, whose suffix is this name.
+pub fn find<'a>(
+    suffixes: &'a [u8; 8192],
+    lengths: &'a [usize; 64],
+    among: usize,
+    name: &[u8],
+) -> Found
+    ensures { λ r. ⌜ ((count : ℕ) → rowNamed (namesIn count (now (suffixes .entry)) (now (lengths .entry))) among (now (name .entry)) ≡ rowOf r) ⌝ }
+{
+    let mut i: usize = 0;
+    while i < 64 {
+        if among <= i {
+            return Found::Nowhere;
+        }
+        if names::same_name(suffix_at(suffixes, lengths, i), name) {
+            return Found::Row(i);
+        }
+        i += 1;
+    }
+    // the suffix of a row past the last is empty
+    let sizes = &lengths[..];
+    if among <= sizes.len() {
+        return Found::Nowhere;
+    }
+    if name.len() == 0 {
+        Found::Row(i)
+    } else {
+        Found::Nowhere
+    }
+}
+
+// NAME: a wire name of 3 to 128 octets.
+pub fn suffix_ok(s: &[u8]) -> bool
+    ensures { λ r. ⌜ r ≡ suffixOk (length (now (s .entry))) (now (s .entry)) ⌝ }
+{
+    (3 <= s.len()) & (s.len() <= 128) & names::wire_name(s)
+}
+
+// The suffix of row i is valid, and no earlier row's.
+fn suffix_rule<'a>(suffixes: &'a [u8; 8192], lengths: &'a [usize; 64], i: usize) -> bool
+    ensures { λ r. ⌜ ((count : ℕ) → r ≡ suffixRule (namesIn count (now (suffixes .entry)) (now (lengths .entry))) i) ⌝ }
+{
+    let all = &suffixes[..];
+    let sizes = &lengths[..];
+    if 64 <= i {
+        return false;
+    }
+    let n = sizes[i];
+    if 128 < n {
+        return false;
+    }
+    let at = i * 128;
+    let end = at + n;
+    let s = &all[at..end];
+    if !suffix_ok(s) {
+        return false;
+    }
+    match find(suffixes, lengths, i, s) {
+        Found::Row(_) => false,
+        Found::Nowhere => true,
+    }
+}
+
+// At most 64 pairs; suffixes valid and distinct.
+fn names_rule<'a>(suffixes: &'a [u8; 8192], lengths: &'a [usize; 64], count: usize) -> bool
+    ensures { λ r. ⌜ r ≡ namesRule (namesIn count (now (suffixes .entry)) (now (lengths .entry))) ⌝ }
+{
+    if 64 < count {
+        return false;
+    }
+    let mut i: usize = 0;
+    while i < count {
+        if !suffix_rule(suffixes, lengths, i) {
+            return false;
+        }
+        i += 1;
+    }
+    true
+}
+
+// The table keeps every rule of 01, "Numbers a caller sees".
+pub fn table_rules(t: Table) -> bool
+    ensures { λ r. ⌜ r ≡ tableRules t ⌝ }
+{
+    let clock = t.clock;
+    let n = t.count;
+    if 0x1_0000_0000_0000 <= clock {
+        return false;
+    }
+    if 64 < n {
+        return false;
+    }
+    let mut i: usize = 0;
+    while i < n {
+        let p = t.pairs[i];
+        if !rules::pair_rule(p, clock) {
+            return false;
+        }
+        i += 1;
+    }
+    names_rule(&t.suffixes, &t.lengths, n)
+}

@@ -27,12 +27,12 @@ use Rattle.model.specs.Pairs.{withKeys, made, revokedKey, renewedKeys, renewed,
 use Rattle.model.specs.Tables.{noPair, pairAt, withPair, withClock, Names, namesOf, suffixAt, namesRule, allFrom, clockRule, tableRules}
 use Rattle.model.specs.Judging.{Holder, holder, heldSuffix, heldPair, adoptedOf, waitingOf, Given, judge, changed}
 use Rattle.model.specs.Replies.{granted, renewedReply, replyOf}
-use Rattle.model.specs.Calls.{TIME, SIZE, OFFER, NOTQUERY, ROOM, Result, refusal, unchanged, timeFits, emptyTable, newTable, freshPair, sizeOk, offerOk, roomFor, replyTo, replied, Call, message, signedBy, readBy, octetsOwner, ownerOf, holderAt, called}
+use Rattle.model.specs.Calls.{TIME, SIZE, OFFER, NOTQUERY, ROOM, Result, refusal, unchanged, timeFits, emptyTable, newTable, freshPair, sizeOk, offerOk, roomFor, replyTo, replied, Call, message, timeOf, signedBy, readBy, octetsOwner, ownerOf, holderAt, served, called}
 use Rattle.model.specs.Runs.{Operation, enrol, call, operated, operatedAll, Has, keyRaised, keyMade, listed, namesMade, NoneSame, Distinct}
-use Rattle.model.proofs.CallLaws.{message-size, message-offer, message-response, message-room, message-done}
+use Rattle.model.proofs.CallLaws.{passes-first, message-size, message-offer, message-response, message-room, message-done}
 use Rattle.guarantees.specs.Freshness.{after, madeBy, Ask, asks, Decides, Renewed, AtOnce, Demand2}
 use Rattle.model.proofs.Tests.{both, either, by-check}
-use Rattle.guarantees.proofs.Moves.{Grantable, Allows, allows}
+use Rattle.model.proofs.Decisions.{Grantable, Allows, allows}
 use Rattle.model.proofs.NameLaws.{same-sym}
 use Rattle.model.proofs.Rows.{Sized, suffix, next, few}
 use Rattle.guarantees.proofs.Made.{Used, Fresh, Grows, fresh-back, Known, Origin, Event, owner-below, call-made}
@@ -236,13 +236,20 @@ module _ (t : Table) (q : Ask) (i : ℕ) (m : Message) (d : Decision) (x : Decid
   abbrev now : ℕ
   now = q .given .now
 
+  abbrev at : Table
+  at = withClock t now
+
+  begins : called t (asks q) ≡ served at (asks q)
+  unfolding timeOf
+  begins = passes-first t (asks q) (x .passes)
+
   sized : sizeOk (q .octets) ≡ true
   unfolding SIZE
   sized = go (sizeOk (q .octets)) refl
     where
       go : (b : Bool) → sizeOk (q .octets) ≡ b → b ≡ true
       go true e = refl
-      go false e = not-refused _ 3 (message-size t now (q .given .good) (q .given .offer) (q .room) (q .octets) (x .passes) e)
+      go false e = not-refused _ 3 (begins ∙ message-size at now (q .given .good) (q .given .offer) (q .room) (q .octets) e)
 
   offered : offerOk (q .given .offer) ≡ true
   unfolding OFFER
@@ -250,7 +257,7 @@ module _ (t : Table) (q : Ask) (i : ℕ) (m : Message) (d : Decision) (x : Decid
     where
       go : (b : Bool) → offerOk (q .given .offer) ≡ b → b ≡ true
       go true e = refl
-      go false e = not-refused _ 4 (message-offer t now (q .given .good) (q .given .offer) (q .room) (q .octets) (x .passes) sized e)
+      go false e = not-refused _ 4 (begins ∙ message-offer at now (q .given .good) (q .given .offer) (q .room) (q .octets) sized e)
 
   query : m .response ≡ false
   unfolding NOTQUERY
@@ -258,7 +265,7 @@ module _ (t : Table) (q : Ask) (i : ℕ) (m : Message) (d : Decision) (x : Decid
     where
       go : (b : Bool) → m .response ≡ b → b ≡ false
       go false e = refl
-      go true e = not-refused _ 6 (message-response t now (q .given .good) (q .given .offer) (q .room) (q .octets) (x .passes) sized offered m (x .end) (x .readings) e)
+      go true e = not-refused _ 6 (begins ∙ message-response at now (q .given .good) (q .given .offer) (q .room) (q .octets) sized offered m (x .end) (x .readings) e)
 
   row-is : signedBy (namesOf (withClock t now)) (signature (m .records)) ≡ some i
   unfolding namesOf withClock
@@ -274,13 +281,14 @@ module _ (t : Table) (q : Ask) (i : ℕ) (m : Message) (d : Decision) (x : Decid
     where
       go : (b : Bool) → roomFor (q .room) (replyTo (holderAt (withClock t now) i) (q .given) m) ≡ b → b ≡ true
       go true e = refl
-      go false e = not-refused _ 7 (message-room t now (q .given .good) (q .given .offer) (q .room) (q .octets) (x .passes) sized offered m (x .end) (x .readings) query (some i) row-is e)
+      go false e = not-refused _ 7 (begins ∙ message-room at now (q .given .good) (q .given .offer) (q .room) (q .octets) sized offered m (x .end) (x .readings) query (some i) row-is e)
 
   -- the pair becomes what the decision makes of it, and the reply is the decision's
   is-done : called t (asks q) ≡ record { table = withPair (withClock t now) i (changed d now (pairAt t i)); outcome = replied (holderAt t i) (q .given) (judge (holderAt t i) (q .given) m) (replyOf (holderAt t i) (q .given) m d) .outcome }
   unfolding replyTo
   is-done =
-      message-done t now (q .given .good) (q .given .offer) (q .room) (q .octets) (x .passes) sized offered m (x .end) (x .readings) query (some i) row-is roomy
+      begins
+      ∙ message-done at now (q .given .good) (q .given .offer) (q .room) (q .octets) sized offered m (x .end) (x .readings) query (some i) row-is roomy
       ∙ ap (λ (h : Holder). record { table = withPair (withClock t now) i (changed (judge h (q .given) m .decision) now (heldPair h)); outcome = replied h (q .given) (judge h (q .given) m) (replyOf h (q .given) m (judge h (q .given) m .decision)) .outcome }) same-held
       ∙ ap₂ (λ (e : Decision) (p : Pair). record { table = withPair (withClock t now) i (changed e now p); outcome = replied (holderAt t i) (q .given) (judge (holderAt t i) (q .given) m) (replyOf (holderAt t i) (q .given) m e) .outcome }) (x .decided) (held-is t i)
 

@@ -19,13 +19,14 @@ use Rattle.model.specs.Pairs.{issued, revoked}
 use Rattle.model.specs.Tables.{noPair, pairAt, withPair, withClock, Names, namesOf, suffixAt, namesRule, clockRule, pairRule, every, tableTests, tableRules}
 use Rattle.model.specs.Judging.{Holder, holder, heldPair, changed}
 use Rattle.model.specs.Checks.{check}
-use Rattle.model.specs.Calls.{TABLE, TIME, CLOCK, Result, unchanged, timeFits, timeGoesOn, timeGate, gate, clockAt, Call, timeOf, ownerOf, stepOf, holderAt, servedBy, called}
+use Rattle.model.specs.Calls.{TABLE, TIME, CLOCK, Result, unchanged, timeFits, timeGoesOn, timeGate, gate, clockAt, Call, timeOf, ownerOf, stepOf, holderAt, servedBy, served, called}
 use Rattle.model.specs.Runs.{Frame, frameOf, belongs}
 use Rattle.model.proofs.CallLaws.{refused-first, passes-first}
 use Rattle.model.proofs.Tests.{True, each, allTrue, left, right, both}
 use Rattle.model.proofs.RuleFacts.{PairOk, pair-sound, pair-complete, pair-later}
 use Rattle.guarantees.proofs.Rules.{issued-ok, revoked-ok, renewed-ok, adopted-ok, deleted-ok, withdrawn-ok}
-use Rattle.guarantees.proofs.Moves.{Allows, Moves, stays, issues, revokes, decides, moves}
+use Rattle.model.proofs.Decisions.{Allows}
+use Rattle.guarantees.proofs.Moves.{Moves, stays, issues, revokes, decides, moves}
 
 -- ── A pair keeps its rules ──────────────────────────────────────────────────────────────────────────────────────────
 
@@ -60,6 +61,10 @@ moved-ok {k} {p} (some t) h b o (revokes now e w) = subst (PairOk t) (ap (revoke
 moved-ok none h b o (decides now m d e a w) = absurd (Option·none-ne-some now e)
 moved-ok {k} {p} (some t) h b o (decides now m d e a w) =
     subst (PairOk t) (ap (λ (x : ℕ). changed d x p) (Option·some-injective t now e) ∙ sym w) (changed-ok t m d h b o a)
+
+pub served-is : (t : Table) (c : Call) → served t c ≡ servedBy t c (ownerOf (namesOf t) c)
+unfolding served
+served-is t c = refl
 
 -- ── The gate ────────────────────────────────────────────────────────────────────────────────────────────────────────
 
@@ -197,7 +202,7 @@ module _ (t : Table) (c : Call) (e : gate t (timeOf c) ≡ none) where
 
   -- The call, by the pair that it belongs to.
   pub called-by : (o : Option ℕ) → belongs (frameOf t) c ≡ o → called t c ≡ servedBy at c o
-  called-by o w = passes-first t c e ∙ ap (servedBy at c) (ap (λ (n : Names). ownerOf n c) (names-at t (timeOf c)) ∙ sym owned ∙ w)
+  called-by o w = passes-first t c e ∙ served-is at c ∙ ap (servedBy at c) (ap (λ (n : Names). ownerOf n c) (names-at t (timeOf c)) ∙ sym owned ∙ w)
 
   pub called-it : called t c ≡ servedBy at c (belongs (frameOf t) c)
   called-it = called-by (belongs (frameOf t) c) refl

@@ -7,10 +7,11 @@ use Rattle.model.specs.declared.Table.{Table}
 use Rattle.model.specs.declared.Keys.{Keys}
 use Rattle.model.specs.declared.Keys.the-variants.{Empty, Adopted, Renewing}
 use Rattle.model.specs.Tables.{pairAt}
-use Rattle.model.specs.Calls.{Outcome, Call, issue, revoke}
-use Rattle.model.specs.Runs.{final, log, NeverBack, frameOf, ownLog, own}
+use Rattle.model.specs.Calls.{Outcome, Call, issue, revoke, issueOn, revokeOn, lookOn, messageOn}
+use Rattle.model.specs.Runs.{final, log, NeverBack, frameOf, ownLog, own, operated}
 use Rattle.model.proofs.Running.{after}
 use Rattle.model.proofs.Day.{day}
+use Rattle.guarantees.specs.Bridge.{Bridge}
 use Rattle.guarantees.specs.Isolation.{AtAnyTimes, InAnyOrder}
 use Rattle.guarantees.specs.Sample.{table, calls}
 use Rattle.guarantees.specs.Promises.{numbers, Promises}
@@ -87,9 +88,20 @@ order-needed claim =
 
 -- ── The whole ───────────────────────────────────────────────────────────────────────────────────────────────────────
 
+bridge : Bridge
+unfolding operated issueOn revokeOn lookOn messageOn
+bridge = record {
+  enrols = λ t time suffix lifetime fresh algorithm. refl;
+  issues = λ t time number algorithm. refl;
+  revokes = λ t time number. refl;
+  looks = λ t octets. refl;
+  messages = λ t time good offer room octets. refl;
+}
+
 pub promises : Promises
 unfolding table calls after
 promises = record {
+  code = bridge;
   refusals = demand1;
   names = demand2;
   isolation = demand3;

@@ -21,7 +21,7 @@ use Rattle.model.proofs.Buffers.{put-length}
 use Rattle.model.proofs.CallLaws.{holderBy, refused-first, passes-first, leaves-it, buffer-refused}
 use Rattle.guarantees.specs.Refusals.{isOne, ownRefusals, firstRefusals, refusalsOf, operationTime, movedBy, Safe, Demand1}
 use Rattle.model.proofs.Tests.{left, by-check, by-read, by-known}
-use Rattle.guarantees.proofs.OneCall.{clock-at, sets-clock, clockBy}
+use Rattle.guarantees.proofs.OneCall.{clock-at, sets-clock, clockBy, served-is}
 use Rattle.guarantees.proofs.Moves.{Ends, refused, finished, ends}
 
 -- ── Lists of numbers ────────────────────────────────────────────────────────────────────────────────────────────────
@@ -107,12 +107,12 @@ module _ (t : Table) (c : Call) where
 
   passed-by : gate t (timeOf c) ≡ none → (o : Option ℕ) → ownerOf (namesOf (clockAt t (timeOf c))) c ≡ o → Ends (holderBy (clockAt t (timeOf c)) o) c (stepOf (holderBy (clockAt t (timeOf c)) o) c) → By (called t c)
   unfolding unchanged
-  passed-by e o w (refused n l q) = subst By (sym (leaves-it t c e o (refusal n) w q)) (refused-later-by t (timeOf c) (ownRefusals c) n e l)
+  passed-by e o w (refused n l q) = subst By (sym (passes-first t c e ∙ leaves-it (clockAt t (timeOf c)) c o (refusal n) w q)) (refused-later-by t (timeOf c) (ownRefusals c) n e l)
   passed-by e o w (finished z m) = done-by t (timeOf c) (ownRefusals c) (called t c) (number o w z) (sets-clock t c e ∙ sym (clock-at t (timeOf c)) ∙ clock-then t (timeOf c) (ownRefusals c) e)
     where
       number : (o : Option ℕ) → ownerOf (namesOf (clockAt t (timeOf c))) c ≡ o → stepOf (holderBy (clockAt t (timeOf c)) o) c .outcome .answer .number ≡ 0 → called t c .outcome .answer .number ≡ 0
-      number none w z = ap (λ (r : Result). r .outcome .answer .number) (passes-first t c e ∙ ap (servedBy (clockAt t (timeOf c)) c) w) ∙ z
-      number (some i) w z = ap (λ (r : Result). r .outcome .answer .number) (passes-first t c e ∙ ap (servedBy (clockAt t (timeOf c)) c) w) ∙ z
+      number none w z = ap (λ (r : Result). r .outcome .answer .number) (passes-first t c e ∙ served-is (clockAt t (timeOf c)) c ∙ ap (servedBy (clockAt t (timeOf c)) c) w) ∙ z
+      number (some i) w z = ap (λ (r : Result). r .outcome .answer .number) (passes-first t c e ∙ served-is (clockAt t (timeOf c)) c ∙ ap (servedBy (clockAt t (timeOf c)) c) w) ∙ z
 
   called-safe : By (called t c)
   called-safe = go (gate t (timeOf c)) refl
@@ -201,7 +201,7 @@ message-fits t time good offer room octets = go (gate t (some time)) refl
 
     go : (g : Option ℕ) → gate t (some time) ≡ g → F (called t it)
     go (some n) e = subst F (sym (refused-first t it n e)) (omega arith)
-    go none e = subst F (sym (passes-first t it e)) (served-fits (ownerOf (namesOf at) it))
+    go none e = subst F (sym (passes-first t it e ∙ served-is at it)) (served-fits (ownerOf (namesOf at) it))
 
 untouched : (t : Table) (c : Call) (buffer : List ℕ) → ¬ (called t c .outcome .answer .number ≡ DONE) → bufferAfter (called t c) buffer ≡ buffer
 untouched t c buffer n =

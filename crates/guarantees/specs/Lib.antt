@@ -1,3 +1,4 @@
+pub mod Bridge
 pub mod Refusals
 pub mod Freshness
 pub mod Isolation

@@ -5,6 +5,7 @@ use mathlib.Core.List.{List, [], _∷_, map}
 use Prim.Native.Nat.{ℕ}
 use Rattle.model.specs.Calls.{Outcome, Call}
 use Rattle.model.specs.Runs.{log, NeverBack, frameOf, belongs}
+use Rattle.guarantees.specs.Bridge.{Bridge}
 use Rattle.guarantees.specs.Refusals.{Demand1}
 use Rattle.guarantees.specs.Freshness.{Demand2}
 use Rattle.guarantees.specs.Isolation.{Demand3, AtAnyTimes, InAnyOrder}
@@ -16,6 +17,8 @@ abbrev pub numbers : List (Call × Outcome) → List ℕ
 numbers l = map (λ x. x .1 .answer .number) l
 
 pub record Promises : Type 0 where
+  -- the definitions that the code is proved equal to are those of the promises below
+  pub code : Bridge
   -- each call ends with an answer or a refusal of its list, and a refusal changes nothing but, where the paper says so, the clock
   pub refusals : Demand1
   -- no key's name is made twice, a renewal hands out a new one, an adoption is one step, and the table rules are kept

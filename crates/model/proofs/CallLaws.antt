@@ -5,8 +5,9 @@ use mathlib.Core.Option.{Option, none, some, Option·none-ne-some, Option·some-
 use mathlib.Core.List.{List}
 use Prim.Native.Nat.{ℕ, _+_, _-_, _≤_, _<_}
 use native.Mathlib.Omega.{arith}
-use borrow.Author.Tests.{leb-true}
+use borrow.Author.Tests.{leb-true, le-leb}
 use lib.Dec.{leb, ltb}
+use lib.ListN.{length}
 use lib.Seq.{set-getD}
 use Rattle.model.specs.declared.Algorithm.{Algorithm}
 use Rattle.model.specs.declared.Named.{Named}
@@ -19,9 +20,9 @@ use Rattle.model.specs.Names.{algorithmNumbered}
 use Rattle.model.specs.Messages.{Message, readMessage}
 use Rattle.model.specs.Tsig.{Signature, signature}
 use Rattle.model.specs.Pairs.{issued, revoked}
-use Rattle.model.specs.Tables.{noPair, pairAt, withPair, withClock, Names, namesOf}
+use Rattle.model.specs.Tables.{noPair, pairAt, withPair, Names, namesOf, rowNamed, suffixOk, isNone, termOk}
 use Rattle.model.specs.Judging.{Holder, nobody, holder, heldNumber, heldPair, adoptedOf, Judged, Given, judge, changed}
-use Rattle.model.specs.Calls.{SIZE, OFFER, FORMAT, NOTQUERY, ROOM, NOPAIR, NOKEY, SPENT, TERM, Outcome, Result, refusal, done, unchanged, gate, clockAt, Step, leaves, isHeld, issueStep, revokeStep, sizeOk, lookedUp, lookStep, offerOk, roomFor, replyTo, replied, answered, messageStep, Call, issue, revoke, look, message, timeOf, signedBy, readBy, octetsOwner, numberOwner, ownerOf, stepOf, holderAt, servedBy, served, passed, called, bufferAfter}
+use Rattle.model.specs.Calls.{SIZE, OFFER, FORMAT, NOTQUERY, ROOM, NOPAIR, NOKEY, SPENT, NAME, TERM, TWIN, FULL, Outcome, Result, refusal, done, unchanged, gate, clockAt, withRow, freshPair, enrolled, Step, leaves, isHeld, issueStep, revokeStep, sizeOk, lookedUp, lookStep, offerOk, roomFor, replyTo, replied, answered, messageStep, Call, issue, revoke, look, message, timeOf, signedBy, readBy, octetsOwner, numberOwner, ownerOf, stepOf, holderAt, servedBy, served, passed, called, bufferAfter}
 
 -- The pair that a call belongs to, as the call sees it; and the table with that pair's row changed.
 abbrev pub holderBy : Table → Option ℕ → Holder
@@ -61,105 +62,101 @@ pub refused-first : (t : Table) (c : Call) (n : ℕ) → gate t (timeOf c) ≡ s
 unfolding called
 refused-first t c n e = ap (passed t c) e
 
-pub passes-first : (t : Table) (c : Call) → gate t (timeOf c) ≡ none → called t c ≡ servedBy (clockAt t (timeOf c)) c (ownerOf (namesOf (clockAt t (timeOf c))) c)
-unfolding called served
+pub passes-first : (t : Table) (c : Call) → gate t (timeOf c) ≡ none → called t c ≡ served (clockAt t (timeOf c)) c
+unfolding called
 passes-first t c e = ap (passed t c) e
 
--- A call that passes and whose step leaves every pair as it was.
-module _ (t : Table) (c : Call) (open-gate : gate t (timeOf c) ≡ none) where
-  abbrev at : Table
-  at = clockAt t (timeOf c)
+-- ── A call that passed, at the table whose clock is set ─────────────────────────────────────────────────────────────
 
-  pub leaves-it : (o : Option ℕ) (x : Outcome) → ownerOf (namesOf at) c ≡ o → stepOf (holderBy at o) c ≡ leaves (holderBy at o) x → called t c ≡ record { table = at; outcome = x }
-  leaves-it o x w e = passes-first t c open-gate ∙ ap (servedBy at c) w ∙ served-leaves at c o x e
+module _ (t : Table) (c : Call) where
+  -- its step leaves every pair as it was
+  pub leaves-it : (o : Option ℕ) (x : Outcome) → ownerOf (namesOf t) c ≡ o → stepOf (holderBy t o) c ≡ leaves (holderBy t o) x → served t c ≡ record { table = t; outcome = x }
+  unfolding served
+  leaves-it o x w e = ap (servedBy t c) w ∙ served-leaves t c o x e
 
-  pub refuses-it : (n : ℕ) → ((h : Holder) → stepOf h c ≡ leaves h (refusal n)) → called t c ≡ unchanged at n
+  pub refuses-it : (n : ℕ) → ((h : Holder) → stepOf h c ≡ leaves h (refusal n)) → served t c ≡ unchanged t n
   unfolding unchanged
-  refuses-it n f = leaves-it (ownerOf (namesOf at) c) (refusal n) refl (f (holderBy at (ownerOf (namesOf at) c)))
+  refuses-it n f = leaves-it (ownerOf (namesOf t) c) (refusal n) refl (f (holderBy t (ownerOf (namesOf t) c)))
 
-  pub changes-it : (o : Option ℕ) (s : Step) → ownerOf (namesOf at) c ≡ o → stepOf (holderBy at o) c ≡ s → called t c ≡ record { table = withHeld at o (s .pair); outcome = s .outcome }
-  changes-it o s w e = passes-first t c open-gate ∙ ap (servedBy at c) w ∙ served-step at c o s e
+  pub changes-it : (o : Option ℕ) (s : Step) → ownerOf (namesOf t) c ≡ o → stepOf (holderBy t o) c ≡ s → served t c ≡ record { table = withHeld t o (s .pair); outcome = s .outcome }
+  unfolding served
+  changes-it o s w e = ap (servedBy t c) w ∙ served-step t c o s e
 
 -- ── Message ─────────────────────────────────────────────────────────────────────────────────────────────────────────
 
-module _ (t : Table) (time : ℕ) (good : Bool) (offer : List ℕ) (room : ℕ) (octets : List ℕ) (open-gate : gate t (some time) ≡ none) where
-  -- the table at the call's time
-  abbrev then-table : Table
-  then-table = withClock t time
-
+module _ (t : Table) (time : ℕ) (good : Bool) (offer : List ℕ) (room : ℕ) (octets : List ℕ) where
   abbrev given : Given
   given = record { now = time; good = good; offer = offer }
 
   abbrev it : Call
   it = message time good offer room octets
 
-  pub message-size : sizeOk octets ≡ false → called t it ≡ unchanged then-table SIZE
-  unfolding timeOf stepOf messageStep
-  message-size e = refuses-it t it open-gate SIZE (λ h. rw e refl)
+  pub message-size : sizeOk octets ≡ false → served t it ≡ unchanged t SIZE
+  unfolding stepOf messageStep
+  message-size e = refuses-it t it SIZE (λ h. rw e refl)
 
   module _ (sized : sizeOk octets ≡ true) where
-    pub message-offer : offerOk offer ≡ false → called t it ≡ unchanged then-table OFFER
-    unfolding timeOf stepOf messageStep
-    message-offer e = refuses-it t it open-gate OFFER (λ h. rw (sized, e) refl)
+    pub message-offer : offerOk offer ≡ false → served t it ≡ unchanged t OFFER
+    unfolding stepOf messageStep
+    message-offer e = refuses-it t it OFFER (λ h. rw (sized, e) refl)
 
     module _ (offered : offerOk offer ≡ true) where
-      pub message-format : (place : ℕ) → readMessage octets ≡ stops place → called t it ≡ unchanged then-table FORMAT
-      unfolding timeOf stepOf messageStep
-      message-format place e = refuses-it t it open-gate FORMAT (λ h. rw (sized, offered, e) refl)
+      pub message-format : (place : ℕ) → readMessage octets ≡ stops place → served t it ≡ unchanged t FORMAT
+      unfolding stepOf messageStep
+      message-format place e = refuses-it t it FORMAT (λ h. rw (sized, offered, e) refl)
 
       module _ (m : Message) (end : ℕ) (is : readMessage octets ≡ reads m end) where
-        pub message-response : m .response ≡ true → called t it ≡ unchanged then-table NOTQUERY
-        unfolding timeOf stepOf messageStep answered
-        message-response e = refuses-it t it open-gate NOTQUERY (λ h. rw (sized, offered, is, e) refl)
+        pub message-response : m .response ≡ true → served t it ≡ unchanged t NOTQUERY
+        unfolding stepOf messageStep answered
+        message-response e = refuses-it t it NOTQUERY (λ h. rw (sized, offered, is, e) refl)
 
         -- and o is the row whose suffix follows the first label of the TSIG's name
-        module _ (query : m .response ≡ false) (o : Option ℕ) (row-is : signedBy (namesOf then-table) (signature (m .records)) ≡ o) where
+        module _ (query : m .response ≡ false) (o : Option ℕ) (row-is : signedBy (namesOf t) (signature (m .records)) ≡ o) where
           abbrev who : Holder
-          who = holderBy then-table o
+          who = holderBy t o
 
-          owner-is : ownerOf (namesOf then-table) it ≡ o
+          owner-is : ownerOf (namesOf t) it ≡ o
           unfolding ownerOf octetsOwner
           owner-is = rw (sized, is) row-is
 
-          pub message-room : roomFor room (replyTo who given m) ≡ false → called t it ≡ unchanged then-table ROOM
-          unfolding timeOf stepOf messageStep answered unchanged
-          message-room e = leaves-it t it open-gate o (refusal ROOM) owner-is (rw (sized, offered, is, e, query) refl)
+          pub message-room : roomFor room (replyTo who given m) ≡ false → served t it ≡ unchanged t ROOM
+          unfolding stepOf messageStep answered unchanged
+          message-room e = leaves-it t it o (refusal ROOM) owner-is (rw (sized, offered, is, e, query) refl)
 
           pub message-done :
               roomFor room (replyTo who given m) ≡ true
-              → called t it
+              → served t it
               ≡ record {
-                table = withHeld then-table o (changed (judge who given m .decision) time (heldPair who));
+                table = withHeld t o (changed (judge who given m .decision) time (heldPair who));
                 outcome = replied who given (judge who given m) (replyTo who given m) .outcome;
               }
-          unfolding timeOf stepOf messageStep answered replied
-          message-done e = changes-it t it open-gate o (replied who given (judge who given m) (replyTo who given m)) owner-is (rw (sized, offered, is, e, query) refl)
+          unfolding stepOf messageStep answered replied
+          message-done e = changes-it t it o (replied who given (judge who given m) (replyTo who given m)) owner-is (rw (sized, offered, is, e, query) refl)
 
 -- ── Look ────────────────────────────────────────────────────────────────────────────────────────────────────────────
 
-module _ (t : Table) (octets : List ℕ) (open-gate : gate t none ≡ none) where
-  pub look-size : sizeOk octets ≡ false → called t (look octets) ≡ unchanged t SIZE
-  unfolding timeOf stepOf lookStep
-  look-size e = refuses-it t (look octets) open-gate SIZE (λ h. rw e refl)
+module _ (t : Table) (octets : List ℕ) where
+  pub look-size : sizeOk octets ≡ false → served t (look octets) ≡ unchanged t SIZE
+  unfolding stepOf lookStep
+  look-size e = refuses-it t (look octets) SIZE (λ h. rw e refl)
 
   module _ (sized : sizeOk octets ≡ true) where
-    pub look-format : (place : ℕ) → readMessage octets ≡ stops place → called t (look octets) ≡ unchanged t FORMAT
-    unfolding timeOf stepOf lookStep
-    look-format place e = refuses-it t (look octets) open-gate FORMAT (λ h. rw (sized, e) refl)
+    pub look-format : (place : ℕ) → readMessage octets ≡ stops place → served t (look octets) ≡ unchanged t FORMAT
+    unfolding stepOf lookStep
+    look-format place e = refuses-it t (look octets) FORMAT (λ h. rw (sized, e) refl)
 
     module _ (m : Message) (end : ℕ) (is : readMessage octets ≡ reads m end) where
-      pub look-response : m .response ≡ true → called t (look octets) ≡ unchanged t NOTQUERY
-      unfolding timeOf stepOf lookStep
-      look-response e = refuses-it t (look octets) open-gate NOTQUERY (λ h. rw (sized, is, e) refl)
+      pub look-response : m .response ≡ true → served t (look octets) ≡ unchanged t NOTQUERY
+      unfolding stepOf lookStep
+      look-response e = refuses-it t (look octets) NOTQUERY (λ h. rw (sized, is, e) refl)
 
       pub look-done :
           m .response ≡ false
           → (o : Option ℕ)
           → signedBy (namesOf t) (signature (m .records)) ≡ o
-          → called t (look octets) ≡ record { table = t; outcome = lookedUp (holderBy t o) (signature (m .records)) }
-      unfolding timeOf stepOf lookStep ownerOf octetsOwner
-      look-done e o w =
-          leaves-it t (look octets) open-gate o (lookedUp (holderBy t o) (signature (m .records))) (rw (sized, is) w) (rw (sized, is, e) refl)
+          → served t (look octets) ≡ record { table = t; outcome = lookedUp (holderBy t o) (signature (m .records)) }
+      unfolding stepOf lookStep ownerOf octetsOwner
+      look-done e o w = leaves-it t (look octets) o (lookedUp (holderBy t o) (signature (m .records))) (rw (sized, is) w) (rw (sized, is, e) refl)
 
 -- ── Issue and revoke early ──────────────────────────────────────────────────────────────────────────────────────────
 
@@ -177,58 +174,97 @@ number-row n number i = go (leb 1 number) (leb number (n .count)) refl refl
         let w : number - 1 ≡ i = Option·some-injective (number - 1) i e in
         (omega arith, omega arith)
 
-module _ (t : Table) (time number algorithm : ℕ) (open-gate : gate t (some time) ≡ none) where
+-- A number that is enrolled, and one that is not.
+pub number-none : (n : Names) (number : ℕ) → (leb 1 number && leb number (n .count)) ≡ false → numberOwner n number ≡ none
+unfolding numberOwner
+number-none n number e = rw e refl
+
+pub number-some : (n : Names) (number i : ℕ) → i + 1 ≡ number → number ≤ n .count → numberOwner n number ≡ some i
+unfolding numberOwner
+number-some n number i e h =
+    let w : number - 1 ≡ i = omega arith in
+    rw (le-leb 1 number (omega arith), le-leb number (n .count) h) (ap {B = Option ℕ} some w)
+
+module _ (t : Table) (time number algorithm : ℕ) where
   abbrev issues : Call
   issues = issue time number algorithm
 
-  pub issue-nopair : numberOwner (namesOf (withClock t time)) number ≡ none → called t issues ≡ unchanged (withClock t time) NOPAIR
-  unfolding timeOf ownerOf stepOf issueStep unchanged
-  issue-nopair w = leaves-it t issues open-gate none (refusal NOPAIR) w refl
+  pub issue-nopair : numberOwner (namesOf t) number ≡ none → served t issues ≡ unchanged t NOPAIR
+  unfolding ownerOf stepOf issueStep unchanged
+  issue-nopair w = leaves-it t issues none (refusal NOPAIR) w refl
 
-  module _ (i : ℕ) (w : numberOwner (namesOf (withClock t time)) number ≡ some i) where
-    abbrev held : Pair
-    held = pairAt (withClock t time) i
+  module _ (i : ℕ) (w : numberOwner (namesOf t) number ≡ some i) where
+    pub issue-spent : ltb (pairAt t i .«next_serial») 0x1_0000_0000 ≡ false → served t issues ≡ unchanged t SPENT
+    unfolding ownerOf stepOf issueStep unchanged heldPair holderAt
+    issue-spent e = leaves-it t issues (some i) (refusal SPENT) w (rw e refl)
 
-    pub issue-spent : ltb (held .«next_serial») 0x1_0000_0000 ≡ false → called t issues ≡ unchanged (withClock t time) SPENT
-    unfolding timeOf ownerOf stepOf issueStep unchanged heldPair holderAt
-    issue-spent e = leaves-it t issues open-gate (some i) (refusal SPENT) w (rw e refl)
-
-    pub issue-term : ltb (held .«next_serial») 0x1_0000_0000 ≡ true → algorithmNumbered algorithm ≡ Unknown → called t issues ≡ unchanged (withClock t time) TERM
-    unfolding timeOf ownerOf stepOf issueStep unchanged heldPair holderAt
-    issue-term e u = leaves-it t issues open-gate (some i) (refusal TERM) w (rw (e, u) refl)
+    pub issue-term : ltb (pairAt t i .«next_serial») 0x1_0000_0000 ≡ true → algorithmNumbered algorithm ≡ Unknown → served t issues ≡ unchanged t TERM
+    unfolding ownerOf stepOf issueStep unchanged heldPair holderAt
+    issue-term e u = leaves-it t issues (some i) (refusal TERM) w (rw (e, u) refl)
 
     pub issue-done :
         (g : Algorithm)
-        → ltb (held .«next_serial») 0x1_0000_0000 ≡ true
+        → ltb (pairAt t i .«next_serial») 0x1_0000_0000 ≡ true
         → algorithmNumbered algorithm ≡ Known g
-        → called t issues ≡ record { table = withPair (withClock t time) i (issued held time g); outcome = done (i + 1) (held .«next_serial») }
-    unfolding timeOf ownerOf stepOf issueStep heldNumber heldPair holderAt
-    issue-done g e k = changes-it t issues open-gate (some i) (record { pair = issued held time g; outcome = done (i + 1) (held .«next_serial») }) w (rw (e, k) refl)
+        → served t issues ≡ record { table = withPair t i (issued (pairAt t i) time g); outcome = done (i + 1) (pairAt t i .«next_serial») }
+    unfolding ownerOf stepOf issueStep heldNumber heldPair holderAt
+    issue-done g e k = changes-it t issues (some i) (record { pair = issued (pairAt t i) time g; outcome = done (i + 1) (pairAt t i .«next_serial») }) w (rw (e, k) refl)
 
-module _ (t : Table) (time number : ℕ) (open-gate : gate t (some time) ≡ none) where
+module _ (t : Table) (time number : ℕ) where
   abbrev revokes : Call
   revokes = revoke time number
 
-  pub revoke-nopair : numberOwner (namesOf (withClock t time)) number ≡ none → called t revokes ≡ unchanged (withClock t time) NOPAIR
-  unfolding timeOf ownerOf stepOf revokeStep unchanged
-  revoke-nopair w = leaves-it t revokes open-gate none (refusal NOPAIR) w refl
+  pub revoke-nopair : numberOwner (namesOf t) number ≡ none → served t revokes ≡ unchanged t NOPAIR
+  unfolding ownerOf stepOf revokeStep unchanged
+  revoke-nopair w = leaves-it t revokes none (refusal NOPAIR) w refl
 
-  module _ (i : ℕ) (w : numberOwner (namesOf (withClock t time)) number ≡ some i) where
-    abbrev mine : Pair
-    mine = pairAt (withClock t time) i
+  module _ (i : ℕ) (w : numberOwner (namesOf t) number ≡ some i) where
+    pub revoke-empty : adoptedOf (pairAt t i .keys) ≡ none → served t revokes ≡ unchanged t NOKEY
+    unfolding ownerOf stepOf revokeStep unchanged heldPair holderAt
+    revoke-empty e = leaves-it t revokes (some i) (refusal NOKEY) w (rw e refl)
 
-    pub revoke-empty : adoptedOf (mine .keys) ≡ none → called t revokes ≡ unchanged (withClock t time) NOKEY
-    unfolding timeOf ownerOf stepOf revokeStep unchanged heldPair holderAt
-    revoke-empty e = leaves-it t revokes open-gate (some i) (refusal NOKEY) w (rw e refl)
-
-    pub revoke-expired : (a : Key) → adoptedOf (mine .keys) ≡ some a → ltb time (a .expiry) ≡ false → called t revokes ≡ unchanged (withClock t time) NOKEY
-    unfolding timeOf ownerOf stepOf revokeStep unchanged heldPair holderAt
-    revoke-expired a k e = leaves-it t revokes open-gate (some i) (refusal NOKEY) w (rw (k, e) refl)
+    pub revoke-expired : (a : Key) → adoptedOf (pairAt t i .keys) ≡ some a → ltb time (a .expiry) ≡ false → served t revokes ≡ unchanged t NOKEY
+    unfolding ownerOf stepOf revokeStep unchanged heldPair holderAt
+    revoke-expired a k e = leaves-it t revokes (some i) (refusal NOKEY) w (rw (k, e) refl)
 
     pub revoke-done :
         (a : Key)
-        → adoptedOf (mine .keys) ≡ some a
+        → adoptedOf (pairAt t i .keys) ≡ some a
         → ltb time (a .expiry) ≡ true
-        → called t revokes ≡ record { table = withPair (withClock t time) i (revoked mine time); outcome = done (i + 1) (a .serial) }
-    unfolding timeOf ownerOf stepOf revokeStep heldNumber heldPair holderAt
-    revoke-done a k e = changes-it t revokes open-gate (some i) (record { pair = revoked mine time; outcome = done (i + 1) (a .serial) }) w (rw (k, e) refl)
+        → served t revokes ≡ record { table = withPair t i (revoked (pairAt t i) time); outcome = done (i + 1) (a .serial) }
+    unfolding ownerOf stepOf revokeStep heldNumber heldPair holderAt
+    revoke-done a k e = changes-it t revokes (some i) (record { pair = revoked (pairAt t i) time; outcome = done (i + 1) (a .serial) }) w (rw (k, e) refl)
+
+-- ── Enrolment ───────────────────────────────────────────────────────────────────────────────────────────────────────
+
+module _ (t : Table) (suffix : List ℕ) (lifetime fresh algorithm : ℕ) where
+  pub enrol-name : suffixOk (length suffix) suffix ≡ false → enrolled t suffix lifetime fresh algorithm ≡ unchanged t NAME
+  unfolding enrolled
+  enrol-name e = rw e refl
+
+  module _ (named : suffixOk (length suffix) suffix ≡ true) where
+    pub enrol-term : termOk lifetime fresh ≡ false → enrolled t suffix lifetime fresh algorithm ≡ unchanged t TERM
+    unfolding enrolled
+    enrol-term e = rw (named, e) refl
+
+    module _ (term : termOk lifetime fresh ≡ true) where
+      pub enrol-algorithm : algorithmNumbered algorithm ≡ Unknown → enrolled t suffix lifetime fresh algorithm ≡ unchanged t TERM
+      unfolding enrolled
+      enrol-algorithm e = rw (named, term, e) refl
+
+      module _ (g : Algorithm) (known : algorithmNumbered algorithm ≡ Known g) where
+        pub enrol-twin : (i : ℕ) → rowNamed (namesOf t) (t .count) suffix ≡ some i → enrolled t suffix lifetime fresh algorithm ≡ unchanged t TWIN
+        unfolding enrolled
+        enrol-twin i e = rw (named, term, known, e) refl
+
+        pub enrol-full : rowNamed (namesOf t) (t .count) suffix ≡ none → ltb (t .count) 64 ≡ false → enrolled t suffix lifetime fresh algorithm ≡ unchanged t FULL
+        unfolding enrolled
+        enrol-full e f = rw (named, term, known, e, f) refl
+
+        pub enrol-done :
+            rowNamed (namesOf t) (t .count) suffix ≡ none
+            → ltb (t .count) 64 ≡ true
+            → enrolled t suffix lifetime fresh algorithm
+            ≡ record { table = withRow t suffix (issued (freshPair lifetime fresh) (t .clock) g); outcome = done (t .count + 1) (freshPair lifetime fresh .«next_serial») }
+        unfolding enrolled
+        enrol-done e f = rw (named, term, known, e, f) refl

@@ -9,6 +9,7 @@ pub mod Folds
 pub mod Records
 pub mod Plain
 pub mod Tkeys
+pub mod Decisions
 pub mod CallLaws
 pub mod Running
 pub mod Requests

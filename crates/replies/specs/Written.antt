@@ -1,0 +1,96 @@
+-- The whole reply, by the decision and by what was read of the message, and what its writer answers. Assumes nothing.
+use Prim.Native.Nat.{ℕ, _+_, _%_, _^_, _<_}
+use mathlib.Core.Path.{_≡_}
+use mathlib.Core.Bool.{Bool, true, false, cond}
+use mathlib.Core.List.{List, []}
+use lib.Dec.{eqb}
+use lib.ListN.{length, take}
+use Rattle.model.specs.declared.Span.{Span}
+use Rattle.model.specs.declared.Pair.{Pair}
+use Rattle.model.specs.declared.Decision.{Decision}
+use Rattle.model.specs.declared.Decision.the-variants.{Unsigned, Refused, Passed, Failed, Renews, Adopts, Readopts, Deletes, Withdraws}
+use Rattle.model.specs.Octets.{put}
+use Rattle.model.specs.Names.{keyName}
+use Rattle.model.specs.Messages.{Message}
+use Rattle.model.specs.Tkey.{onlyTkey, onlyKey}
+use Rattle.model.specs.Judging.{Holder, heldSuffix, heldPair, Given}
+use Rattle.model.specs.Replies.{replyOf}
+use Rattle.model.specs.Calls.{roomFor}
+use Rattle.messages.specs.Record.{cut}
+use Rattle.tkey.specs.declared.TkeyFields.{TkeyFields}
+use Rattle.tkey.specs.declared.TkeyFound.{TkeyFound}
+use Rattle.tkey.specs.declared.TkeyFound.the-variants.{Nothing, One}
+use Rattle.tkey.specs.declared.KeyFound.{KeyFound}
+use Rattle.tkey.specs.declared.KeyFound.the-variants.{Nothing as NoKey, One as OneKey}
+use Rattle.tkey.specs.Fields
+use Rattle.tkey.specs.Key
+use Rattle.replies.specs.declared.Fields.{Fields as AnswerFields}
+use Rattle.replies.specs.declared.Written.{Written}
+use Rattle.replies.specs.declared.Written.the-variants.{Reply, NoRoom}
+use Rattle.replies.specs.Parts.{HeadRead, repeatedOctets, renewedOctets}
+
+-- The TKEY that answers the request's: with this error number and this other data; or with the new key's times.
+abbrev pub answerOf : TkeyFields → ℕ → Span → AnswerFields
+answerOf t error other =
+    record { algorithm = t .algorithm; inception = t .inception; expiration = t .expiration; mode = t .mode; error = error; key = t .key; other = other }
+
+abbrev pub otherOf : TkeyFields → Bool → Span
+otherOf t true = record { from = 0; size = 0 }
+otherOf t false = t .other
+
+abbrev pub grantOf : TkeyFields → ℕ → ℕ → AnswerFields
+grantOf t time expiry =
+    record { algorithm = t .algorithm; inception = time % 4294967296; expiration = expiry % 4294967296; mode = t .mode; error = 0; key = t .key; other = t .other }
+
+-- The reply of a TKEY outcome that grants no key, and of a granted renewal. `name` holds the TKEY's owner name, `subject` the KEY's.
+abbrev pub outcomeOf : List ℕ → ℕ → TkeyFound → List ℕ → ℕ → Bool → List ℕ
+outcomeOf m end Nothing name error again = []
+outcomeOf m end (One n t) name error again = repeatedOctets m end 0 (answerOf t error (otherOf t again)) (take n name) (cut m (t .key))
+
+abbrev pub renewalOctets : List ℕ → ℕ → TkeyFound → KeyFound → List ℕ → List ℕ → Pair → List ℕ → ℕ → List ℕ
+renewalOctets m end Nothing key subject offer p suffix time = []
+renewalOctets m end (One n t) NoKey subject offer p suffix time = []
+renewalOctets m end (One n t) (OneKey k e) subject offer p suffix time =
+    renewedOctets m end (grantOf t time (time + p .lifetime)) (keyName (p .«next_serial») suffix) offer e (take k subject)
+
+-- What the writer answers of a reply: it is there, and so long; or there is no room, and nothing was written.
+abbrev pub AnswersBy : List ℕ → List ℕ → List ℕ → Written → Type 0
+AnswersBy reply entry exit (Reply n) = (roomFor (length entry) reply ≡ true) × (n ≡ length reply) × (exit ≡ put reply entry)
+AnswersBy reply entry exit NoRoom = (roomFor (length entry) reply ≡ false) × (exit ≡ entry)
+
+pub record Answers (reply entry exit : List ℕ) (w : Written) : Type 0 where
+  pub says : AnswersBy reply entry exit w
+
+abbrev pub writtenBy : ℕ → Written
+writtenBy n = cond (eqb n 0) NoRoom (Reply n)
+
+-- A granted renewal has a serial left, and a time that fits.
+abbrev pub DecisionFits : Decision → Pair → ℕ → Type 0
+DecisionFits Unsigned p time = Unit {0}
+DecisionFits (Refused rcode error) p time = rcode < 256
+DecisionFits (Passed skew) p time = Unit {0}
+DecisionFits (Failed error) p time = error < 65536
+DecisionFits (Renews g) p time = (p .«next_serial» < 2 ^ 32) × (time + p .lifetime < 2 ^ 64)
+DecisionFits Adopts p time = Unit {0}
+DecisionFits Readopts p time = Unit {0}
+DecisionFits Deletes p time = Unit {0}
+DecisionFits Withdraws p time = Unit {0}
+
+-- What was read of the message m is the message q: its header and question section, its only TKEY and its only KEY record.
+pub record ReadAs (m : List ℕ) (end : ℕ) (found : TkeyFound) (name : List ℕ) (key : KeyFound) (subject : List ℕ) (q : Message) : Type 0 where
+  pub head : HeadRead m end q
+  pub tkey : onlyTkey q ≡ Fields.shown m name found
+  pub key-record : onlyKey q ≡ Key.shown m subject key
+
+-- The answer and the buffer are those of model's reply, whatever message, holder and call these are the readings of.
+pub record Replies
+    (m : List ℕ) (end : ℕ) (found : TkeyFound) (name : List ℕ) (key : KeyFound) (subject offer : List ℕ) (p : Pair) (suffix : List ℕ) (time : ℕ) (d : Decision)
+    (entry exit : List ℕ) (w : Written) : Type 0 where
+  pub answers :
+      (h : Holder) (g : Given) (q : Message)
+      → heldSuffix h ≡ suffix
+      → heldPair h ≡ p
+      → g .now ≡ time
+      → g .offer ≡ offer
+      → ReadAs m end found name key subject q
+      → Answers (replyOf h g q d) entry exit w

@@ -1,6 +1,6 @@
 -- The calls as code makes them: one law for each way out of a call, in the order of the refusals, with the message read once. Assumes nothing.
 use mathlib.Core.Path.{_≡_, refl, ap, ap₂, sym, _∙_}
-use mathlib.Core.Bool.{Bool, true, false, cond, _&&_}
+use mathlib.Core.Bool.{Bool, true, false, cond, not, _&&_}
 use mathlib.Core.Option.{Option, none, some, Option·none-ne-some, Option·some-injective}
 use mathlib.Core.List.{List}
 use Prim.Native.Nat.{ℕ, _+_, _-_, _≤_, _<_}
@@ -18,11 +18,13 @@ use Rattle.model.specs.declared.Table.{Table}
 use Rattle.model.specs.Octets.{put, Reading, stops, reads}
 use Rattle.model.specs.Names.{algorithmNumbered}
 use Rattle.model.specs.Messages.{Message, readMessage}
-use Rattle.model.specs.Tsig.{Signature, signature}
+use Rattle.model.specs.Tsig.{Signature, unsigned, misplaced, signed, signature}
 use Rattle.model.specs.Pairs.{issued, revoked}
 use Rattle.model.specs.Tables.{noPair, pairAt, withPair, Names, namesOf, rowNamed, suffixOk, isNone, termOk}
-use Rattle.model.specs.Judging.{Holder, nobody, holder, heldNumber, heldPair, adoptedOf, Judged, Given, judge, changed}
-use Rattle.model.specs.Calls.{SIZE, OFFER, FORMAT, NOTQUERY, ROOM, NOPAIR, NOKEY, SPENT, NAME, TERM, TWIN, FULL, Outcome, Result, refusal, done, unchanged, gate, clockAt, withRow, freshPair, enrolled, Step, leaves, isHeld, issueStep, revokeStep, sizeOk, lookedUp, lookStep, offerOk, roomFor, replyTo, replied, answered, messageStep, Call, issue, revoke, look, message, timeOf, signedBy, readBy, octetsOwner, numberOwner, ownerOf, stepOf, holderAt, servedBy, served, passed, called, bufferAfter}
+use Rattle.model.specs.Judging.{Holder, nobody, holder, heldNumber, heldPair, adoptedOf, signerOf, Judged, Given, judge, changed}
+use Rattle.model.specs.Checks.{check}
+use Rattle.model.proofs.Tests.{by-check, by-read, by-some, by-known}
+use Rattle.model.specs.Calls.{SIZE, OFFER, FORMAT, NOTQUERY, ROOM, NOPAIR, NOKEY, SPENT, NAME, TERM, TWIN, FULL, Outcome, Result, refusal, done, unchanged, gate, clockAt, withRow, freshPair, enrolled, Step, leaves, refuses, isHeld, found, issueStep, revokeStep, sizeOk, lookedUp, lookStep, offerOk, roomFor, replyTo, replied, answered, messageStep, Call, issue, revoke, look, message, timeOf, signedBy, readBy, octetsOwner, numberOwner, ownerOf, stepOf, holderAt, servedBy, served, passed, called, bufferAfter}
 
 -- The pair that a call belongs to, as the call sees it; and the table with that pair's row changed.
 abbrev pub holderBy : Table → Option ℕ → Holder
@@ -268,3 +270,98 @@ module _ (t : Table) (suffix : List ℕ) (lifetime fresh algorithm : ℕ) where
             ≡ record { table = withRow t suffix (issued (freshPair lifetime fresh) (t .clock) g); outcome = done (t .count + 1) (freshPair lifetime fresh .«next_serial») }
         unfolding enrolled
         enrol-done e f = rw (named, term, known, e, f) refl
+
+-- ── The length of a reply ───────────────────────────────────────────────────────────────────────────────────────────
+
+-- The answer counts the octets of the reply.
+pub record Counted (s : Step) : Type 0 where
+  pub is : s .outcome .answer .length ≡ length (s .outcome .reply)
+
+counted-leaves : (h : Holder) (o : Outcome) → o .answer .length ≡ length (o .reply) → Counted (leaves h o)
+unfolding leaves
+counted-leaves h o e = record { is = e }
+
+counted-refusal : (h : Holder) (n : ℕ) → Counted (refuses h n)
+unfolding refusal
+counted-refusal h n = counted-leaves h (refusal n) refl
+
+counted-done : (p : Pair) (pair serial : ℕ) → Counted (record { pair = p; outcome = done pair serial })
+unfolding done
+counted-done p pair serial = record { is = refl }
+
+counted-found : (number : ℕ) (k : Option Key) → found number k .answer .length ≡ length (found number k .reply)
+unfolding done
+counted-found number none = refl
+counted-found number (some k) = refl
+
+counted-look : (h : Holder) (s : Signature) → lookedUp h s .answer .length ≡ length (lookedUp h s .reply)
+unfolding done
+counted-look h unsigned = refl
+counted-look h misplaced = refl
+counted-look h (signed s) = counted-found (heldNumber h) (signerOf h s)
+
+counted-replied : (h : Holder) (g : Given) (j : Judged) (reply : List ℕ) → Counted (replied h g j reply)
+unfolding replied
+counted-replied h g j reply = record { is = refl }
+
+module _ (h : Holder) where
+  passes : (n : ℕ) (b : Bool) {next : Step} → (b ≡ true → Counted next) → Counted (check (refuses h) n b next)
+  passes n = by-check Counted (refuses h) n (counted-refusal h n)
+
+  counted-issue : (now algorithm : ℕ) → Counted (issueStep h now algorithm)
+  unfolding issueStep
+  counted-issue now algorithm =
+      passes NOPAIR (isHeld h) λ _.
+      passes SPENT (ltb (heldPair h .«next_serial») 0x1_0000_0000) λ _.
+      by-known Counted (refuses h) TERM (counted-refusal h TERM) (algorithmNumbered algorithm) λ g _.
+      counted-done _ _ _
+
+  counted-revoke : (now : ℕ) → Counted (revokeStep h now)
+  unfolding revokeStep
+  counted-revoke now =
+      passes NOPAIR (isHeld h) λ _.
+      by-some Counted (refuses h) NOKEY (counted-refusal h NOKEY) (adoptedOf (heldPair h .keys)) λ a _.
+      passes NOKEY (ltb now (a .expiry)) λ _.
+      counted-done _ _ _
+
+  counted-looked : (octets : List ℕ) → Counted (lookStep h octets)
+  unfolding lookStep
+  counted-looked octets =
+      passes SIZE (sizeOk octets) λ _.
+      by-read Counted (refuses h) FORMAT (counted-refusal h FORMAT) (readMessage octets) λ m _ _.
+      passes NOTQUERY (not (m .response)) λ _.
+      counted-leaves h _ (counted-look h (signature (m .records)))
+
+  counted-answered : (g : Given) (room : ℕ) (m : Message) → Counted (answered h g room m)
+  unfolding answered
+  counted-answered g room m =
+      passes NOTQUERY (not (m .response)) λ _. passes ROOM (roomFor room (replyTo h g m)) λ _. counted-replied h g (judge h g m) (replyTo h g m)
+
+  counted-message : (g : Given) (room : ℕ) (octets : List ℕ) → Counted (messageStep h g room octets)
+  unfolding messageStep
+  counted-message g room octets =
+      passes SIZE (sizeOk octets) λ _.
+      passes OFFER (offerOk (g .offer)) λ _.
+      by-read Counted (refuses h) FORMAT (counted-refusal h FORMAT) (readMessage octets) λ m _ _.
+      counted-answered g room m
+
+  counted-step : (c : Call) → Counted (stepOf h c)
+  unfolding stepOf
+  counted-step (issue time number algorithm) = counted-issue time algorithm
+  counted-step (revoke time number) = counted-revoke time
+  counted-step (look octets) = counted-looked octets
+  counted-step (message time good offer room octets) = counted-message _ room octets
+
+counted-served : (t : Table) (c : Call) (o : Option ℕ) → servedBy t c o .outcome .answer .length ≡ length (servedBy t c o .outcome .reply)
+counted-served t c none = counted-step nobody c .is
+counted-served t c (some i) = counted-step (holderAt t i) c .is
+
+counted-passed : (t : Table) (c : Call) (n : Option ℕ) → passed t c n .outcome .answer .length ≡ length (passed t c n .outcome .reply)
+unfolding served unchanged refusal
+counted-passed t c none = counted-served (clockAt t (timeOf c)) c (ownerOf (namesOf (clockAt t (timeOf c))) c)
+counted-passed t c (some n) = refl
+
+-- "DONE returns the reply length (0 for no reply)", and a refusal has no reply and the length 0.
+pub counted : (t : Table) (c : Call) → called t c .outcome .answer .length ≡ length (called t c .outcome .reply)
+unfolding called
+counted t c = counted-passed t c (gate t (timeOf c))

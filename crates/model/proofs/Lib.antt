@@ -15,3 +15,4 @@ pub mod Running
 pub mod Requests
 pub mod Day
 pub mod Examples
+pub mod Texts

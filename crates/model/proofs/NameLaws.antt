@@ -5,6 +5,7 @@ use mathlib.Core.Bool.{Bool, true, false, _&&_, false≢true}
 use mathlib.Core.Logic.{_≢_}
 use mathlib.Core.List.{List, [], _∷_, _++_}
 use Prim.Native.Nat.{ℕ, zero, suc, _+_, _-_, _*_, _/_, _%_, _^_, _≤_, _<_}
+use native.Mathlib.Nat.{pow-suc, div-lt-iff-lt-mul}
 use native.Mathlib.Omega.{arith}
 use lib.Dec.{eqb}
 use lib.ListN.{length, length-append}
@@ -104,28 +105,46 @@ pub decimal-inj : (a b : ℕ) → decimal a ≡ decimal b → a ≡ b
 unfolding decimal
 decimal-inj a b e = sym (digits-value a a (omega arith)) ∙ ap (value 0) e ∙ digits-value b b (omega arith)
 
--- a number of at most k digits
-abbrev Short : ℕ → ℕ → Type 0
-Short zero n = n ≡ 0
-Short (suc k) n = Short k (n / 10)
-
-digits-short : (j k n : ℕ) → Short j n → length (digitsOf k n) ≤ j
+-- what bounds the digits changes nothing where it is enough
+digits-none : (k : ℕ) → digitsOf k 0 ≡ []
 unfolding digitsOf
-digits-short j zero n h = omega arith
-digits-short zero (suc k) n h = go (eqb n 0) refl
+digits-none zero = refl
+digits-none (suc k) = refl
+
+digits-enough : (j k n : ℕ) → n ≤ j → n ≤ k → digitsOf j n ≡ digitsOf k n
+unfolding digitsOf
+digits-enough zero k n h i = let z : n ≡ 0 = omega arith in rw (z, digits-none k) refl
+digits-enough (suc j) zero n h i = let z : n ≡ 0 = omega arith in rw z refl
+digits-enough (suc j) (suc k) n h i = go (eqb n 0) refl (digits-enough j k (n / 10))
   where
-    go : (b : Bool) → eqb n 0 ≡ b → length {A = ℕ} (elim b [ true ↦ [] | false ↦ digitsOf k (n / 10) ++ ((48 + n % 10) ∷ []) ]) ≤ 0
-    go true e = omega arith
-    go false e = absurd (eqb-false n 0 e h)
-digits-short (suc j) (suc k) n h = go (eqb n 0) (digits-short j k (n / 10) h)
+    go :
+        (b : Bool)
+        → eqb n 0 ≡ b
+        → (n / 10 ≤ j → n / 10 ≤ k → digitsOf j (n / 10) ≡ digitsOf k (n / 10))
+        → _≡_ {A = List ℕ} (elim b [ true ↦ [] | false ↦ digitsOf j (n / 10) ++ ((48 + n % 10) ∷ []) ]) (elim b [ true ↦ [] | false ↦ digitsOf k (n / 10) ++ ((48 + n % 10) ∷ []) ])
+    go true e f = refl
+    go false e f = let z : n ≢ 0 = eqb-false n 0 e in rw (f (omega arith) (omega arith)) refl
+
+-- the last digit, and those before it
+pub decimal-more : (n : ℕ) → n ≢ 0 → decimal n ≡ decimal (n / 10) ++ ((48 + n % 10) ∷ [])
+unfolding decimal digitsOf
+decimal-more zero h = absurd (h refl)
+decimal-more (suc k) h = rw (decimal, ne-eqb (suc k) 0 h, digitsOf, digits-enough k (suc k / 10) (suc k / 10) (omega arith) (omega arith)) refl
+
+-- below 10 ^ j, at most j digits
+digits-short : (j k n : ℕ) → n < 10 ^ j → length (digitsOf k n) ≤ j
+unfolding digitsOf
+digits-short zero k n h = let z : n ≡ 0 = omega arith in rw (z, digits-none k) (omega arith)
+digits-short (suc j) zero n h = omega arith
+digits-short (suc j) (suc k) n h = go (eqb n 0) (digits-short j k (n / 10) (div-lt-iff-lt-mul (omega arith) .1 (rw pow-suc at h)))
   where
     go : (b : Bool) → length (digitsOf k (n / 10)) ≤ j → length {A = ℕ} (elim b [ true ↦ [] | false ↦ digitsOf k (n / 10) ++ ((48 + n % 10) ∷ []) ]) ≤ suc j
     go true r = omega arith
     go false r = rw (length-append (digitsOf k (n / 10)) ((48 + n % 10) ∷ [])) (omega arith)
 
-pub decimal-short : (n : ℕ) → n < 2 ^ 32 → length (decimal n) ≤ 10
+pub decimal-short : (j n : ℕ) → n < 10 ^ j → length (decimal n) ≤ j
 unfolding decimal
-decimal-short n h = digits-short 10 n n (omega arith)
+decimal-short j n h = digits-short j n n h
 
 -- ── Names of keys ───────────────────────────────────────────────────────────────────────────────────────────────────
 
@@ -135,8 +154,8 @@ unfolding keyName serialLabel sameName decimal
 key-same a b x y ha hb e =
     let la = length (decimal a) in
     let lb = length (decimal b) in
-    let sa : la ≤ 10 = decimal-short a ha in
-    let sb : lb ≤ 10 = decimal-short b hb in
+    let sa : la ≤ 10 = decimal-short 10 a (omega arith) in
+    let sb : lb ≤ 10 = decimal-short 10 b (omega arith) in
     let t = eqb (lowerOf la) (lowerOf lb) in
     let rest = sameName (decimal a ++ x) (decimal b ++ y) in
     let n : la ≡ lb = sym (low la (omega arith)) ∙ eqb-true (lowerOf la) (lowerOf lb) (left t rest e) ∙ low lb (omega arith) in

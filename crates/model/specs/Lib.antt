@@ -10,3 +10,7 @@ pub mod Judging
 pub mod Replies
 pub mod Calls
 pub mod Runs
+pub mod Text
+pub mod Listing
+pub mod Script
+pub mod Image

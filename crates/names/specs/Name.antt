@@ -1,7 +1,7 @@
--- What the answers of the name reader and of the writer of digits say, against the crate model's definitions. Assumes nothing.
-use Prim.Native.Nat.{ℕ, _+_, _≤_}
+-- What the answers of the name reader say, against the crate model's definitions. Assumes nothing.
+use Prim.Native.Nat.{ℕ, _≤_}
 use mathlib.Core.Path.{_≡_}
-use mathlib.Core.List.{List, _++_}
+use mathlib.Core.List.{List}
 use lib.ListN.{length, take}
 use Rattle.model.specs.Octets.{Reading, stops, reads}
 use Rattle.model.specs.Names.{Item, fails, ends, label, points}
@@ -43,10 +43,3 @@ pub record NameRead (m : List ℕ) (n : Reading (List ℕ)) (out : List ℕ) (r 
   pub short : lenOf r ≤ 255
   pub within : placeOf r ≤ length m
   pub room : length out ≡ 255
-
--- ds stands in out from place 1 up to r.
-pub record Written (ds before out : List ℕ) (r : ℕ) : Type 0 where
-  pub place : r ≡ 1 + length ds
-  pub short : r ≤ 11
-  pub room : length out ≡ 11
-  pub holds : take r out ≡ take 1 before ++ ds

@@ -3,11 +3,11 @@ use model::Algorithm;
 use model::Named;
 ghost use mathlib.Core.Path.{_≡_};
 ghost use mathlib.Core.List.{_++_};
-ghost use Prim.Native.Nat.{ℕ, _+_, _≤_, _<_, _^_};
+ghost use Prim.Native.Nat.{_+_, _≤_, _<_, _^_};
 ghost use lib.ListN.{length, take, drop, getD};
-ghost use Rattle.model.specs.Names.{labelAt, pointerAt, itemAt, endsAt, readOn, readName, readPlain, wireName, lowerOf, sameName, digitsOf, serialLabel, keyName, algorithmName, algorithmNamed};
+ghost use Rattle.model.specs.Names.{labelAt, pointerAt, itemAt, endsAt, readOn, readName, readPlain, wireName, lowerOf, sameName, decimal, serialLabel, keyName, algorithmName, algorithmNamed};
 ghost use Rattle.octets.specs.Wrote.{Wrote};
-ghost use Rattle.names.specs.Name.{itemOf, endedAt, NameRead, Written};
+ghost use Rattle.names.specs.Name.{itemOf, endedAt, NameRead};
 
 // What reading a name gives: the place where it failed, or how many octets the expanded name
 // has and the place just after the name where it stands.
@@ -194,17 +194,16 @@ pub fn same_name(a: &[u8], b: &[u8]) -> bool
     true
 }
 
-// Writes the digits of n from place 1 of out on, and returns the place after them. 0 has none.
-fn digits(n: u64, out: &mut [u8; 11]) -> usize
-    requires { ⌜ (length (now out) ≡ 11) × (n < 10 ^ 10) ⌝ }
-    ensures { λ r. ⌜ ((k : ℕ) → n ≤ k → Written (digitsOf k n) (now (out .entry)) (now (out .exit)) r) ⌝ }
+// Writes the digits of n from `at` on, with no leading zero, and returns the place after them. 0 has none.
+pub fn decimal_into(out: &mut [u8], at: usize, n: u64) -> usize
+    requires { ⌜ at + length (decimal n) ≤ length (now out) ⌝ }
+    ensures { λ r. ⌜ Wrote (decimal n) at (now (out .entry)) (now (out .exit)) r ⌝ }
 {
     if n == 0 {
-        1
+        at
     } else {
-        let at = digits(n / 10, out);
-        out[at] = (48 + n % 10) as u8;
-        at + 1
+        let last = decimal_into(out, at, n / 10);
+        octets::u8_into(out, last, (48 + n % 10) as u8)
     }
 }
 
@@ -214,7 +213,7 @@ pub fn serial_label(serial: u64, out: &mut [u8; 11]) -> usize
     ensures { λ r. ⌜ (r ≤ 11) × (take r (now (out .exit)) ≡ serialLabel serial) ⌝ }
 {
     *out = [0u8; 11];
-    let end = digits(serial, out);
+    let end = decimal_into(&mut out[..], 1, serial);
     out[0] = (end - 1) as u8;
     end
 }

@@ -1,12 +1,12 @@
 -- Laws of message as the code makes it. Assumes nothing.
-use Prim.Native.Nat.{ℕ, _+_, _*_, _≤_, _<_, _^_}
+use Prim.Native.Nat.{ℕ, _+_, _≤_, _<_, _^_}
 use mathlib.Core.Path.{_≡_, refl, sym, ap, ap₂, subst, _∙_}
 use mathlib.Core.Bool.{Bool, true, false}
 use mathlib.Core.Option.{Option, none, some, Option·none-ne-some}
 use mathlib.Core.List.{List, []}
 use native.Mathlib.Omega.{arith}
 use lib.Dec.{leb}
-use lib.ListN.{length, getD, take, length-take}
+use lib.ListN.{length, take}
 use lib.IntN.{ℤ}
 use borrow.Author.Tests.{le-leb, lt-leb, ltb-true, leb-true}
 use Rattle.model.specs.declared.Keys.{Keys}
@@ -16,7 +16,6 @@ use Rattle.model.specs.declared.Table.{Table}
 use Rattle.model.specs.declared.Answer.{Answer}
 use Rattle.model.specs.declared.Decision.{Decision}
 use Rattle.model.specs.declared.Decision.the-variants.{Passed}
-use Rattle.model.specs.Octets.{part}
 use Rattle.model.specs.Names.{afterLabel}
 use Rattle.model.specs.Messages.{responseOf}
 use Rattle.model.specs.Tsig.{Signature, unsigned, misplaced, signed, signature}
@@ -44,6 +43,7 @@ use Rattle.pairs.specs.Fits.{Fits}
 use Rattle.pairs.proofs.Fit.{rule-fits}
 use Rattle.tables.specs.declared.Found.{Found}
 use Rattle.tables.specs.Rows.{namesIn, rowOf}
+use Rattle.tables.proofs.Laws.{suffix-short}
 use Rattle.judging.specs.declared.Who.the-variants.{Nobody as Unowned, Pair as Owner}
 use Rattle.judging.specs.declared.Handed.{Handed}
 use Rattle.judging.specs.declared.Judged.{Judged}
@@ -201,14 +201,6 @@ low-serials l n c (Renewing a w) h o = let x = o .0 in let y = o .1 in (omega ar
 pub serials-fit : (clock : ℕ) (p : Pair) → pairRule clock p ≡ true → SerialsFit (p .keys)
 serials-fit clock p e = let o = pair-sound clock p e in low-serials (p .lifetime) (p .«next_serial») clock (p .keys) (o .last) (o .keys-ok)
 
-part-short : (xs : List ℕ) (at n : ℕ) → n ≤ 128 → length (part xs at n) ≤ 128
-unfolding part
-part-short xs at n h = simp length-take (omega arith)
-
-suffix-short : (t : Table) (i : ℕ) → getD (t .lengths) i 0 ≤ 128 → length (suffixAt (namesIn (t .count) (t .suffixes) (t .lengths)) i) ≤ 128
-unfolding suffixAt
-suffix-short t i h = part-short (t .suffixes) (i * 128) (getD (t .lengths) i 0) h
-
 early-time : (time : ℕ) → timeFits time ≡ true → time < 2 ^ 48
 unfolding timeFits
 early-time time e = let h : time < 0xffff_8000_0000 = ltb-true _ _ e in omega arith
@@ -239,7 +231,7 @@ module _ (t : Table) (given : Handed) (m offer : List ℕ) (ready : Ready t give
           is-suffix = refl;
           early = early;
           expires = its-fits .expires;
-          short = rw (e (t .count)) (suffix-short t i (ready .opens .sound .short i in-use));
+          short = rw (e (t .count)) (omega (arith, suffix-short (t .count) (t .suffixes) (t .lengths) i, ready .opens .sound .short i in-use));
           few = ready .few;
           counted = ready .counted;
         }

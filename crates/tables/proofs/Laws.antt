@@ -99,6 +99,10 @@ module _ (count : ℕ) (s l : List ℕ) (i : ℕ) where
   unfolding suffixAt part
   suffix-none h = rw (List·getD-eq-default l 0 h) refl
 
+  pub suffix-short : length (suffixAt (namesIn count s l) i) ≤ getD l i 0
+  unfolding suffixAt part
+  suffix-short = simp length-take (omega arith)
+
   pub suffix-length : i * 128 + getD l i 0 ≤ length s → length (suffixAt (namesIn count s l) i) ≡ getD l i 0
   unfolding suffixAt part
   suffix-length h = simp (length-take, length-drop) (omega arith)

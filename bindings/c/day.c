@@ -1,0 +1,235 @@
+/* The replay script (docs/SCRIPT.md) on the C interface: calls on standard input, results on standard output. An example for C users and a test:
+ *
+ *   gcc -std=c11 -Wall -Wextra -Werror -Iinclude bindings/c/day.c target/staticlib/libcapi.a -o day && ./day <examples/day.script
+ */
+#include <inttypes.h>
+#include <stdio.h>
+#include <string.h>
+
+#include "luffcringle.h"
+
+enum { LONGEST_LINE = 200000, MOST_OCTETS = LONGEST_LINE / 2, MOST_ROOM = 65535, MOST_WORDS = 6 };
+
+/* Where the words of a row are (luffcringle.h). */
+enum { ROWS = 2, ROW_WORDS = 32, LIFETIME = 1, FRESH = 2, NEXT_SERIAL = 3, KEYS = 4, ADOPTED = 5, WAITING = 10, SUFFIX = 16 };
+
+struct word {
+    const char *text;
+    size_t length;
+};
+
+struct octets {
+    uint8_t octet[MOST_OCTETS];
+    size_t length;
+};
+
+static uint64_t image[LUFFCRINGLE_IMAGE_WORDS];
+static uint64_t answer[LUFFCRINGLE_ANSWER_WORDS];
+static uint8_t reply[MOST_ROOM];
+static struct octets suffix, message, offer;
+
+/* ---- Reading ---- */
+
+/* One line without its newline, of which at most LONGEST_LINE octets are kept; its whole length in *length. False at the end of the input. */
+static bool read_line(char *line, size_t *length) {
+    size_t n = 0;
+    int c = getchar();
+    if (c == EOF)
+        return false;
+    for (; c != EOF && c != '\n'; c = getchar()) {
+        if (n < LONGEST_LINE)
+            line[n] = (char)c;
+        n++;
+    }
+    *length = n;
+    return true;
+}
+
+/* The words between single spaces; MOST_WORDS + 1 where there are more than a call has. */
+static int split(const char *line, size_t length, struct word *words) {
+    int count = 0;
+    size_t start = 0;
+    for (size_t at = 0; at <= length; at++) {
+        if (at < length && line[at] != ' ')
+            continue;
+        if (count == MOST_WORDS)
+            return MOST_WORDS + 1;
+        words[count++] = (struct word){line + start, at - start};
+        start = at + 1;
+    }
+    return count;
+}
+
+static bool is(struct word w, const char *text) { return w.length == strlen(text) && memcmp(w.text, text, w.length) == 0; }
+
+static bool read_number(struct word w, uint64_t *number) {
+    uint64_t n = 0;
+    for (size_t i = 0; i < w.length; i++) {
+        if (w.text[i] < '0' || w.text[i] > '9')
+            return false;
+        uint64_t digit = (uint64_t)(w.text[i] - '0');
+        if (n > (UINT64_MAX - digit) / 10)
+            return false;
+        n = 10 * n + digit;
+    }
+    *number = n;
+    return w.length > 0;
+}
+
+static int digit_of(char c) {
+    if ('0' <= c && c <= '9')
+        return c - '0';
+    if ('a' <= c && c <= 'f')
+        return c - 'a' + 10;
+    return 'A' <= c && c <= 'F' ? c - 'A' + 10 : -1;
+}
+
+static bool read_octets(struct word w, struct octets *o) {
+    o->length = 0;
+    if (is(w, "-"))
+        return true;
+    if (w.length == 0 || w.length % 2 != 0)
+        return false;
+    for (size_t i = 0; i < w.length; i += 2) {
+        int high = digit_of(w.text[i]), low = digit_of(w.text[i + 1]);
+        if (high < 0 || low < 0)
+            return false;
+        o->octet[o->length++] = (uint8_t)(16 * high + low);
+    }
+    return true;
+}
+
+static bool read_verdict(struct word w, bool *good) {
+    *good = is(w, "good");
+    return *good || is(w, "bad");
+}
+
+/* ---- Printing ---- */
+
+static void print_hex(const uint8_t *octets, size_t length) {
+    for (size_t i = 0; i < length; i++)
+        printf("%02x", octets[i]);
+}
+
+static void print_answer(void) {
+    size_t length = (size_t)answer[LUFFCRINGLE_LENGTH];
+    printf("%" PRIu64 " %zu %" PRIu64 " %" PRId64 " %" PRIu64 " %" PRIu64 " ", answer[LUFFCRINGLE_NUMBER], length, answer[LUFFCRINGLE_ERROR],
+           (int64_t)answer[LUFFCRINGLE_SKEW], answer[LUFFCRINGLE_PAIR], answer[LUFFCRINGLE_SERIAL]);
+    if (length == 0)
+        putchar('-');
+    print_hex(reply, length);
+    putchar('\n');
+}
+
+static void print_key(const char *state, const uint64_t *key) {
+    printf("key\t%s\t%" PRIu64 "\thmac-sha%" PRIu64 "\t%" PRIu64 "\t%" PRIu64 "\t%" PRIu64 "\n", state, key[0], key[1], key[2], key[3], key[4]);
+}
+
+/* Eight octets of a suffix to a word, the first in the low bits. */
+static void print_suffix(const uint64_t *words, uint64_t length) {
+    for (uint64_t i = 0; i < length; i++)
+        printf("%02x", (unsigned)(words[i / 8] >> (8 * (i % 8)) & 0xff));
+}
+
+static void print_pair(const uint64_t *row) {
+    printf("pair\t");
+    print_suffix(row + SUFFIX, row[0]);
+    printf("\t%" PRIu64 "\t%" PRIu64 "\t%" PRIu64 "\n", row[NEXT_SERIAL], row[LIFETIME], row[FRESH]);
+    if (row[KEYS] >= 1)
+        print_key("adopted", row + ADOPTED);
+    if (row[KEYS] == 2)
+        print_key("waiting", row + WAITING);
+}
+
+static void print_table(void) {
+    printf("clock\t%" PRIu64 "\n", image[0]);
+    for (uint64_t i = 0; i < image[1]; i++)
+        print_pair(image + ROWS + ROW_WORDS * i);
+}
+
+/* ---- The calls: false where the words do not read, and then nothing is called ---- */
+
+static bool call_new(const struct word *w) {
+    uint64_t time;
+    if (!read_number(w[1], &time))
+        return false;
+    luffcringle_new_table(time, image, LUFFCRINGLE_IMAGE_WORDS, answer);
+    return true;
+}
+
+static bool call_enrol(const struct word *w) {
+    uint64_t time, lifetime, fresh, algorithm;
+    if (!read_number(w[1], &time) || !read_octets(w[2], &suffix) || !read_number(w[3], &lifetime) || !read_number(w[4], &fresh) ||
+        !read_number(w[5], &algorithm))
+        return false;
+    luffcringle_enrol(image, LUFFCRINGLE_IMAGE_WORDS, time, suffix.octet, suffix.length, lifetime, fresh, algorithm, answer);
+    return true;
+}
+
+static bool call_issue(const struct word *w) {
+    uint64_t time, pair, algorithm;
+    if (!read_number(w[1], &time) || !read_number(w[2], &pair) || !read_number(w[3], &algorithm))
+        return false;
+    luffcringle_issue(image, LUFFCRINGLE_IMAGE_WORDS, time, pair, algorithm, answer);
+    return true;
+}
+
+static bool call_revoke(const struct word *w) {
+    uint64_t time, pair;
+    if (!read_number(w[1], &time) || !read_number(w[2], &pair))
+        return false;
+    luffcringle_revoke(image, LUFFCRINGLE_IMAGE_WORDS, time, pair, answer);
+    return true;
+}
+
+static bool call_look(const struct word *w) {
+    if (!read_octets(w[1], &message))
+        return false;
+    luffcringle_look(image, LUFFCRINGLE_IMAGE_WORDS, message.octet, message.length, answer);
+    return true;
+}
+
+static bool call_message(const struct word *w) {
+    uint64_t time, room;
+    bool good;
+    if (!read_number(w[1], &time) || !read_verdict(w[2], &good) || !read_octets(w[3], &offer) || !read_number(w[4], &room) ||
+        !read_octets(w[5], &message))
+        return false;
+    luffcringle_message(image, LUFFCRINGLE_IMAGE_WORDS, time, good, message.octet, message.length, offer.octet, offer.length, reply,
+                        room < MOST_ROOM ? (size_t)room : MOST_ROOM, answer);
+    return true;
+}
+
+static const struct {
+    const char *word;
+    int words;
+    bool (*call)(const struct word *);
+} calls[] = {
+    {"new", 2, call_new},       {"enrol", 6, call_enrol}, {"issue", 4, call_issue},
+    {"revoke", 3, call_revoke}, {"look", 2, call_look},   {"message", 6, call_message},
+};
+
+static bool run_line(const char *line, size_t length) {
+    struct word words[MOST_WORDS];
+    int count = split(line, length, words);
+    if (count == 1 && is(words[0], "list")) {
+        print_table();
+        return true;
+    }
+    for (size_t i = 0; i < sizeof calls / sizeof calls[0]; i++)
+        if (count == calls[i].words && is(words[0], calls[i].word) && calls[i].call(words)) {
+            print_answer();
+            return true;
+        }
+    return false;
+}
+
+int main(void) {
+    static char line[LONGEST_LINE];
+    size_t length;
+    luffcringle_new_table(0, image, LUFFCRINGLE_IMAGE_WORDS, answer);
+    for (uint64_t number = 1; read_line(line, &length); number++)
+        if (length > LONGEST_LINE || !run_line(line, length))
+            printf("bad line %" PRIu64 "\n", number);
+    return fflush(stdout) == 0 ? 0 : 1;
+}

@@ -1,0 +1,182 @@
+//! Scripts as docs/SCRIPT.md has them, run through the wrapper and compared
+//! line by line with the second reader.
+
+mod support;
+
+use luffcringle::{Answer, Refusal, Table};
+use std::fmt::Write;
+use std::path::{Path, PathBuf};
+use support::table_of;
+
+const LONGEST_LINE: usize = 200_000;
+const MOST_ROOM: usize = 65_535;
+
+/// A run through the wrapper.
+struct Runner {
+    table: Table,
+    line: u64,
+    reply: Vec<u8>,
+}
+
+impl Runner {
+    fn new() -> Runner {
+        Runner {
+            table: Table::new(0).expect("0 is a time"),
+            line: 0,
+            reply: vec![0; MOST_ROOM],
+        }
+    }
+
+    /// What one line prints.
+    fn line(&mut self, line: &[u8]) -> String {
+        self.line += 1;
+        if line == b"list" {
+            return listing(&self.table);
+        }
+        let fits = line.len() <= LONGEST_LINE;
+        match fits.then(|| self.call(line)).flatten() {
+            Some(result) => self.printed(result),
+            None => format!("bad line {}\n", self.line),
+        }
+    }
+
+    /// `None` is a bad line: all words are read before a call is made.
+    fn call(&mut self, line: &[u8]) -> Option<Result<Answer, Refusal>> {
+        let line = std::str::from_utf8(line).ok()?;
+        let words: Vec<&str> = line.split(' ').collect();
+        let table = &mut self.table;
+        Some(match words[..] {
+            ["new", time] => Table::new(number(time)?).map(|new| {
+                *table = new;
+                Answer::default()
+            }),
+            ["enrol", time, suffix, lifetime, fresh, algorithm] => table.enrol(
+                number(time)?,
+                &octets(suffix)?,
+                number(lifetime)?,
+                number(fresh)?,
+                number(algorithm)?,
+            ),
+            ["issue", time, pair, algorithm] => {
+                table.issue(number(time)?, number(pair)?, number(algorithm)?)
+            }
+            ["revoke", time, pair] => table.revoke(number(time)?, number(pair)?),
+            ["look", message] => table.look(&octets(message)?),
+            ["message", time, verdict, offer, room, message] => table.message(
+                number(time)?,
+                is_good(verdict)?,
+                &octets(message)?,
+                &octets(offer)?,
+                &mut self.reply[..number(room)?.min(MOST_ROOM as u64) as usize],
+            ),
+            _ => return None,
+        })
+    }
+
+    fn printed(&self, result: Result<Answer, Refusal>) -> String {
+        let number = result.err().map_or(0, Refusal::number);
+        let answer = result.unwrap_or_default();
+        let reply = match answer.length {
+            0 => "-".to_string(),
+            length => hex(&self.reply[..length]),
+        };
+        let (length, error, skew) = (answer.length, answer.error, answer.skew);
+        let (pair, serial) = (answer.pair, answer.serial);
+        format!("{number} {length} {error} {skew} {pair} {serial} {reply}\n")
+    }
+}
+
+fn number(word: &str) -> Option<u64> {
+    let is_plain = word.bytes().all(|octet| octet.is_ascii_digit());
+    is_plain.then(|| word.parse().ok()).flatten()
+}
+
+fn is_good(word: &str) -> Option<bool> {
+    match word {
+        "good" => Some(true),
+        "bad" => Some(false),
+        _ => None,
+    }
+}
+
+fn octets(word: &str) -> Option<Vec<u8>> {
+    if word == "-" {
+        return Some(Vec::new());
+    }
+    let digits: Option<Vec<u8>> = word.chars().map(digit).collect();
+    let digits = digits.filter(|digits| !digits.is_empty() && digits.len() % 2 == 0)?;
+    Some(digits.chunks(2).map(|two| two[0] << 4 | two[1]).collect())
+}
+
+fn digit(digit: char) -> Option<u8> {
+    digit.to_digit(16).map(|value| value as u8)
+}
+
+fn hex(octets: &[u8]) -> String {
+    octets.iter().fold(String::new(), |mut text, octet| {
+        write!(text, "{octet:02x}").expect("a string takes all");
+        text
+    })
+}
+
+fn listing(table: &Table) -> String {
+    let mut out = Vec::new();
+    second::script::print_listing(&table_of(table.image()), &mut out);
+    String::from_utf8(out).expect("plain text")
+}
+
+/// Both readers, line by line and table by table; answers with what both print.
+fn agree(script: &[u8]) -> String {
+    let mut ours = Runner::new();
+    let mut theirs = second::script::Runner::new();
+    let mut all = String::new();
+    let script = script.strip_suffix(b"\n").unwrap_or(script);
+    for line in script.split(|&octet| octet == b'\n') {
+        let printed = ours.line(line);
+        let mut expected = Vec::new();
+        theirs.line(line, &mut expected);
+        let at = ours.line;
+        assert_eq!(printed.as_bytes(), expected, "line {at}");
+        assert_eq!(&table_of(ours.table.image()), theirs.table(), "line {at}");
+        all.push_str(&printed);
+    }
+    all
+}
+
+fn read(path: &Path) -> Vec<u8> {
+    std::fs::read(path).unwrap_or_else(|error| panic!("{}: {error}", path.display()))
+}
+
+fn example(name: &str) -> Vec<u8> {
+    read(
+        &Path::new(env!("CARGO_MANIFEST_DIR"))
+            .join("../../examples")
+            .join(name),
+    )
+}
+
+#[test]
+fn the_worked_day() {
+    let printed = agree(&example("day.script"));
+    assert_eq!(printed.as_bytes(), example("day.expected"));
+}
+
+/// The script that LUFFCRINGLE_SCRIPT names, if it is set.
+#[test]
+fn the_named_script() {
+    let Some(path) = std::env::var_os("LUFFCRINGLE_SCRIPT") else {
+        return;
+    };
+    let script = read(&PathBuf::from(path));
+    assert!(!script.is_empty());
+    let printed = agree(&script);
+    println!("{} lines of results", printed.lines().count());
+}
+
+#[test]
+fn lines_that_do_not_read() {
+    agree(b"new 01\nnew +1\nnew 18446744073709551616\nnew  1\nlook abc\nlook \nlook gg\n\xff\nList\n\nmessage 1 Good - 9 -\nlook -");
+    let longest = [b"look ".as_slice(), &[b'0'; LONGEST_LINE - 4]].concat();
+    agree(&longest);
+    agree(&longest[..LONGEST_LINE - 1]);
+}

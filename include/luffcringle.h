@@ -1,0 +1,125 @@
+/* Luffcringle: the key table of a DNS server and its six calls, for C. The functions are those of the crate capi, whose contracts say what each call
+ * leaves, for every value of every argument; link target/staticlib/libcapi.a (rt staticlib capi). */
+#ifndef LUFFCRINGLE_H
+#define LUFFCRINGLE_H
+
+#include <stdbool.h>
+#include <stddef.h>
+#include <stdint.h>
+
+#ifdef __cplusplus
+extern "C" {
+#endif
+
+/* What a call returns, and the first word of its answer (document 01, "Numbers a caller sees"). */
+enum luffcringle_number {
+    LUFFCRINGLE_DONE = 0,      /* work done */
+    LUFFCRINGLE_TABLE = 1,     /* the image holds no table, or one that breaks a table rule */
+    LUFFCRINGLE_TIME = 2,      /* time is 2^48 - 2^31 or more */
+    LUFFCRINGLE_CLOCK = 3,     /* time is before the table's clock */
+    LUFFCRINGLE_SIZE = 4,      /* message shorter than 12 or longer than 65535 octets */
+    LUFFCRINGLE_OFFER = 5,     /* offered key data over 1024 octets */
+    LUFFCRINGLE_FORMAT = 6,    /* message breaks a reading rule */
+    LUFFCRINGLE_NOTQUERY = 7,  /* QR bit is 1 */
+    LUFFCRINGLE_ROOM = 8,      /* reply longer than the lent buffer or than 65535 octets */
+    LUFFCRINGLE_NOPAIR = 9,    /* pair number not enrolled */
+    LUFFCRINGLE_NOKEY = 10,    /* revoke early: no adopted key, or expired */
+    LUFFCRINGLE_SPENT = 11,    /* issue: next serial is 2^32 */
+    LUFFCRINGLE_NAME = 12,     /* suffix is not a wire name of 3 to 128 octets */
+    LUFFCRINGLE_TERM = 13,     /* enrol: not 1 <= fresh < lifetime <= 2^31 - 1; enrol or issue: algorithm not 256, 384 or 512 */
+    LUFFCRINGLE_TWIN = 14,     /* suffix already enrolled */
+    LUFFCRINGLE_FULL = 15      /* 64 pairs enrolled */
+};
+
+/* The image: the table in 2050 words, which the caller keeps and lends to each call.
+ *
+ *   word          holds
+ *   0             the clock
+ *   1             the count of pairs
+ *   2 + 32 i ..   row i (pair number i + 1), for each i below 64:
+ *     + 0         the length of the suffix
+ *     + 1         the lifetime
+ *     + 2         the fresh period
+ *     + 3         the next serial
+ *     + 4         the keys: 0 none, 1 an adopted key, 2 an adopted and a waiting key
+ *     + 5 .. 9    the adopted key: serial, algorithm (256, 384 or 512), inception, partial, expiry
+ *     + 10 .. 14  the waiting key, likewise
+ *     + 15        nothing
+ *     + 16 .. 31  the 128 octets of the suffix, eight to a word, the first in the low bits: in order, on a little-endian machine
+ *
+ * The words of a key that a row does not have, and word 15, are read as anything and written as 0. Octets of a suffix past its length, and rows past
+ * the count, mean nothing and are kept; but every row has a known tag, and a key in use a known algorithm, past the count too. An image may be stored
+ * and lent again later; one that holds no table, or one that breaks a table rule, is refused with TABLE. */
+#define LUFFCRINGLE_IMAGE_WORDS 2050
+
+/* The answer: six words, which every call writes. A refusal writes its number and 0 in all others. */
+#define LUFFCRINGLE_ANSWER_WORDS 6
+enum luffcringle_answer {
+    LUFFCRINGLE_NUMBER = 0,  /* as returned */
+    LUFFCRINGLE_LENGTH = 1,  /* octets of the reply; 0 where there is none */
+    LUFFCRINGLE_ERROR = 2,   /* the TSIG error of the reply; 0 where there is none */
+    LUFFCRINGLE_SKEW = 3,    /* time signed minus time, of a message that is passed up: cast to int64_t (two's complement) */
+    LUFFCRINGLE_PAIR = 4,    /* the pair of the key that signed, was made, revoked or found; 0 where there is none */
+    LUFFCRINGLE_SERIAL = 5   /* that key's serial */
+};
+
+/* What every call keeps to:
+ * - It is refused for the first reason that applies, in the order in which its refusals are listed.
+ * - A refusal changes nothing but the image's clock (word 0), and that only where TABLE, TIME and CLOCK passed; the reply buffer keeps every octet.
+ *   After every call, done or refused, the image holds exactly the table that the call left.
+ * - image_words other than 2050 is TABLE.
+ * - A call reads and writes only what it is lent, keeps nothing and allocates nothing. Two threads may call at the same time, but not on one image:
+ *   a call may not write an image that another call reads or writes. Two looks may share one.
+ * - Pointers: none is null, also where the length is 0; each leads to as many words or octets as its length says (answer: 6), aligned for its type;
+ *   what is written (image, reply, answer) overlaps nothing else that is lent. That is the caller's to keep: no call can test it.
+ * - Times are seconds since 1970. MACs, secrets and key data are the caller's. */
+
+/* New table: no pairs, its clock the time given; what the words held before does not matter. Refused with TABLE, TIME. A refusal leaves the image. */
+uint64_t luffcringle_new_table(uint64_t time, uint64_t *image, size_t image_words, uint64_t answer[LUFFCRINGLE_ANSWER_WORDS]);
+
+/* Enrol: adds a pair (suffix: an uncompressed wire name) with its first key, serial 1, and answers the pair's number and that serial. Refused with
+ * TABLE, TIME, CLOCK, NAME, TERM, TWIN, FULL. */
+uint64_t luffcringle_enrol(uint64_t *image, size_t image_words, uint64_t time, const uint8_t *suffix, size_t suffix_length, uint64_t lifetime,
+                           uint64_t fresh, uint64_t algorithm, uint64_t answer[LUFFCRINGLE_ANSWER_WORDS]);
+
+/* Issue: a fresh adopted key with the next serial, in the place of what the pair had; answers the pair and the serial. Refused with TABLE, TIME,
+ * CLOCK, NOPAIR, SPENT, TERM. */
+uint64_t luffcringle_issue(uint64_t *image, size_t image_words, uint64_t time, uint64_t pair, uint64_t algorithm,
+                           uint64_t answer[LUFFCRINGLE_ANSWER_WORDS]);
+
+/* Revoke early: the partial time of the pair's adopted key becomes the earlier of itself and now; answers the pair and the key's serial. Refused with
+ * TABLE, TIME, CLOCK, NOPAIR, NOKEY. */
+uint64_t luffcringle_revoke(uint64_t *image, size_t image_words, uint64_t time, uint64_t pair, uint64_t answer[LUFFCRINGLE_ANSWER_WORDS]);
+
+/* Look: the pair and the serial of the adopted key whose name and algorithm the message's TSIG gives, expired or not, else 0 and 0: so the caller
+ * knows which secret verifies the MAC, before it calls luffcringle_message. Changes nothing, takes no time. Refused with TABLE, SIZE, FORMAT,
+ * NOTQUERY. */
+uint64_t luffcringle_look(const uint64_t *image, size_t image_words, const uint8_t *message, size_t message_length,
+                          uint64_t answer[LUFFCRINGLE_ANSWER_WORDS]);
+
+/* Message: judges a message, changes the pair that it belongs to as judging decides, and writes the reply without its TSIG into the first octets of
+ * `reply`. `good` is the verdict on the MAC (ignored where there is no TSIG), `offer` the key data for a renewal, 0 to 1024 octets. Answers the
+ * reply's length, the TSIG error, the skew, and the pair and the serial of the key that signed. Refused with TABLE, TIME, CLOCK, SIZE, OFFER,
+ * FORMAT, NOTQUERY, ROOM (the reply's length has no TSIG in it: keep room to append one).
+ *
+ * DONE with length 0: the message is the caller's to answer; signed by that pair and serial, with that skew, or unsigned where pair is 0.
+ * DONE with a reply: the caller appends its TSIG (RFC 8945, 5.3.2), by the answer's error and pair and the reply's RCODE:
+ *   error   pair    RCODE   TSIG to append
+ *   17      0       9       BADKEY: unsigned (a MAC of size 0), with that error
+ *   16      not 0   9       BADSIG: unsigned, with that error
+ *   18      not 0   9       BADTIME: signed by the request's key, with that error and the server's time in its other data
+ *   3841    not 0   9       PartialRevoke: signed by the request's key, with that error
+ *   0       not 0   0       a TKEY outcome: signed by the request's key, with error 0
+ *   0       not 0   1       a MAC of a wrong size, or not one well formed TKEY: signed by the request's key where `good` was true, else none
+ *   0       0       1, 5    before a key is known: none
+ * The request's key is the answer's pair and serial, also where this very message deleted or replaced it: keep its secret until the reply is
+ * signed. */
+uint64_t luffcringle_message(uint64_t *image, size_t image_words, uint64_t time, bool good, const uint8_t *message, size_t message_length,
+                             const uint8_t *offer, size_t offer_length, uint8_t *reply, size_t reply_room,
+                             uint64_t answer[LUFFCRINGLE_ANSWER_WORDS]);
+
+#ifdef __cplusplus
+}
+#endif
+
+#endif

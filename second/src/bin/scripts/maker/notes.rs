@@ -1,0 +1,140 @@
+//! What a line reached, whatever scenario made it, and rules that hold of every call.
+
+use super::Maker;
+use crate::desk::{Outcome, Table};
+use crate::wire;
+
+impl Maker<'_> {
+    pub(super) fn note(&mut self, line: &[u8], before: &Table, seen: &Outcome) {
+        if !self.table.is_sound() {
+            self.surprise("the table breaks a rule");
+        }
+        if seen.bad || seen.listed {
+            self.hit(if seen.bad { "bad line" } else { "list" });
+            self.check_unchanged(before);
+            return;
+        }
+        let text = String::from_utf8_lossy(line);
+        let words: Vec<&str> = text.split(' ').collect();
+        let call = words[0];
+        self.hit(&format!("{call} {}", seen.number));
+        if call == "look" {
+            self.note_look(before, seen);
+        } else {
+            let time = words[1].parse().expect("a time that read");
+            self.note_clock(call, time, before, seen);
+        }
+        if call == "message" {
+            self.note_message(before, seen);
+        }
+        if seen.number != 0 {
+            self.check_refused(before, seen);
+        }
+    }
+
+    fn check_unchanged(&mut self, before: &Table) {
+        if self.table != *before {
+            self.surprise("the table changed");
+        }
+    }
+
+    fn check_refused(&mut self, before: &Table, seen: &Outcome) {
+        if !seen.is_bare() {
+            self.surprise("a refusal returned more than its number");
+        }
+        if self.table.pairs != before.pairs {
+            self.surprise("a refusal changed a pair");
+        }
+    }
+
+    fn note_clock(&mut self, call: &str, time: u64, before: &Table, seen: &Outcome) {
+        let kept = seen.number == 2 || seen.number == 3;
+        let due = if kept { before.clock } else { time };
+        if self.table.clock != due {
+            self.surprise("the clock is not as it should be");
+        }
+        if seen.number > 3 && time > before.clock {
+            self.hit(&format!("clock moved by a refused {call}"));
+        }
+    }
+
+    fn note_look(&mut self, before: &Table, seen: &Outcome) {
+        self.check_unchanged(before);
+        if seen.number != 0 {
+            return;
+        }
+        if seen.pair == 0 {
+            self.hit("look 0 0");
+            return;
+        }
+        self.hit("look found");
+        if !self.pair(seen.pair).is_live(self.table.clock) {
+            self.hit("look found an expired key");
+        }
+    }
+
+    fn note_message(&mut self, before: &Table, seen: &Outcome) {
+        if seen.number != 0 {
+            return;
+        }
+        if seen.error != 0 {
+            self.hit(&format!("tsig error {}", seen.error));
+        }
+        match (seen.rcode(), seen.tkey()) {
+            (None, _) => self.note_unanswered(seen),
+            (Some(rcode), tkey) => {
+                self.hit(&format!("rcode {rcode}"));
+                if let Some(tkey) = tkey {
+                    self.hit(&format!("tkey error {}", tkey.error));
+                    if tkey.error == 0 {
+                        return self.note_success(tkey.mode, before, seen);
+                    }
+                }
+            }
+        }
+        if self.table.pairs != before.pairs {
+            self.surprise("a message without success changed a pair");
+        }
+    }
+
+    fn note_unanswered(&mut self, seen: &Outcome) {
+        if seen.pair == 0 {
+            self.hit("success handed up unsigned");
+            return;
+        }
+        self.hit("success passed up");
+        self.hit(match seen.skew.signum() {
+            -1 => "skew negative",
+            0 => "skew zero",
+            _ => "skew positive",
+        });
+    }
+
+    fn note_success(&mut self, mode: u16, before: &Table, seen: &Outcome) {
+        let was = before.pairs[seen.pair as usize - 1].clone();
+        let is = self.pair(seen.pair).clone();
+        let item = match (mode, was.waiting.is_some()) {
+            (wire::RENEW, false) => "success renewal granted",
+            (wire::RENEW, true) => "success renewal replacing a waiting key",
+            (wire::ADOPT, _) if was.adopted != is.adopted => "success adoption",
+            (wire::ADOPT, false) => "success re-adoption without a waiting key",
+            (wire::ADOPT, true) => "success re-adoption with a waiting key",
+            (_, true) if is.adopted.is_none() => "success deletion of both keys of a pair",
+            (_, true) => "success deletion of the waiting key",
+            (_, false) => "success deletion of the adopted key",
+        };
+        self.hit(item);
+        if let (wire::RENEW, Some(key)) = (mode, &is.waiting) {
+            self.note_wrap(key.inception, key.expiry);
+        }
+    }
+
+    /// The reply has these times modulo 2^32.
+    fn note_wrap(&mut self, inception: u64, expiry: u64) {
+        match (inception >> 32, expiry >> 32) {
+            (0, 0) => {}
+            (0, _) => self.hit("renewal with times on both sides of 2^32"),
+            _ => self.hit("renewal with times above 2^32"),
+        }
+    }
+}

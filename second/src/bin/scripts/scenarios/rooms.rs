@@ -1,0 +1,103 @@
+//! The lent reply buffer: just enough, one short, none, and more than any reply needs.
+
+use super::{cross, two_words, Group};
+use crate::desk::Want;
+use crate::maker::{tsig, Maker, Signer, MAX_ROOM};
+use crate::wire::{key_name, Ask};
+
+pub fn groups() -> Vec<Group> {
+    vec![Group {
+        name: "room",
+        weight: 60,
+        items: || cross(&KINDS, &ROOMS),
+        run: room,
+    }]
+}
+
+const KINDS: [&str; 11] = [
+    "ill formed TSIG",
+    "unsigned TKEY request",
+    "BADKEY",
+    "BADSIG",
+    "PartialRevoke",
+    "TKEY error",
+    "renewal",
+    "adoption",
+    "re-adoption",
+    "deletion",
+    "passed up",
+];
+
+const ROOMS: [&str; 8] = [
+    "0",
+    "11",
+    "one short",
+    "exact",
+    "one more",
+    "65535",
+    "65536",
+    "2^64 - 1",
+];
+
+fn ask_for(maker: &mut Maker, kind: &str) -> (Signer, Ask, Want) {
+    let s = match kind {
+        "adoption" => maker.with_waiting(),
+        "PartialRevoke" => maker.revoked(),
+        _ => maker.live(),
+    };
+    let mut ask = match kind {
+        "TKEY error" | "unsigned TKEY request" => maker.request(&s, 2, &s.name()),
+        "renewal" => maker.renewal(&s),
+        "adoption" => {
+            let key = maker.pair(s.pair).waiting.clone();
+            let (serial, algorithm) = key.map_or((0, 256), |k| (k.serial, k.algorithm));
+            maker.adoption(&s, &key_name(serial, &s.suffix), algorithm)
+        }
+        "re-adoption" => maker.adoption(&s, &s.name(), s.algorithm),
+        "deletion" => maker.deletion(&s, &s.name()),
+        _ => maker.ordinary(&s),
+    };
+    let want = match kind {
+        "ill formed TSIG" => {
+            tsig(&mut ask).ttl = 1;
+            Want::Ill
+        }
+        "unsigned TKEY request" => {
+            ask.tsig = None;
+            Want::Refuse
+        }
+        "BADKEY" => {
+            tsig(&mut ask).owner = vec![0];
+            Want::BadKey
+        }
+        "BADSIG" => Want::BadSig,
+        "PartialRevoke" => Want::Partial,
+        "TKEY error" => Want::Tkey(19),
+        "passed up" => Want::Passed(0),
+        _ => Want::Tkey(0),
+    };
+    (s, ask, want)
+}
+
+fn room(maker: &mut Maker, item: &str) -> bool {
+    let (kind, room) = two_words(item);
+    let (s, ask, want) = ask_for(maker, kind);
+    let mut call = maker.call(s.time);
+    call.good = kind != "BADSIG";
+    let length = maker.due_reply(&call, &ask, want).len() as u64;
+    call.room = match room {
+        "0" => 0,
+        "11" => 11,
+        "one short" => length.saturating_sub(1),
+        "exact" => length,
+        "one more" => length + 1,
+        "65535" => MAX_ROOM,
+        "65536" => MAX_ROOM + 1,
+        _ => u64::MAX,
+    };
+    let want = match call.room < length {
+        true => Want::Refused(8),
+        false => want,
+    };
+    maker.asks(&call, &ask, want)
+}

@@ -1,0 +1,212 @@
+//! The six calls. 01 "The desk's business" and "Numbers a caller sees".
+
+use crate::judging::{self, Case, Denial, Outcome, Ruling, Signer};
+use crate::names;
+use crate::reply;
+use crate::table::{are_terms, Algorithm, Keys, Pair, Table, MOST_PAIRS, SERIAL_LIMIT};
+use crate::wire::Message;
+
+/// The first time that is refused.
+pub const TIME_LIMIT: u64 = (1 << 48) - (1 << 31);
+
+/// The refusals of 01's table, `as u8` its numbers.
+#[derive(Clone, Copy, Debug, PartialEq, Eq)]
+pub enum Refusal {
+    Table = 1,
+    Time,
+    Clock,
+    Size,
+    Offer,
+    Format,
+    NotQuery,
+    Room,
+    NoPair,
+    NoKey,
+    Spent,
+    Name,
+    Term,
+    Twin,
+    Full,
+}
+
+/// What a call returns that is DONE.
+#[derive(Clone, Copy, Debug, Default, PartialEq, Eq)]
+pub struct Done {
+    /// Of the reply; 0 for none.
+    pub length: usize,
+    /// The TSIG error or 0.
+    pub error: u16,
+    pub skew: i64,
+    /// The number of the key's pair, or 0.
+    pub pair: u64,
+    /// The key's serial, or 0.
+    pub serial: u64,
+}
+
+impl Done {
+    /// 01, the paragraph after the table: pair and serial of a key.
+    fn with_key(index: usize, serial: u64) -> Done {
+        Done {
+            pair: index as u64 + 1,
+            serial,
+            ..Done::default()
+        }
+    }
+
+    /// The same, 0 and 0 when there is none.
+    fn with_signer(signer: Option<Signer>) -> Done {
+        signer.map_or(Done::default(), |signer| {
+            Done::with_key(signer.index, signer.key.serial)
+        })
+    }
+}
+
+/// 01 "The desk's business", new table: no pairs, its clock the time given.
+pub fn new(time: u64) -> Result<Table, Refusal> {
+    ensure(time < TIME_LIMIT, Refusal::Time)?;
+    Ok(Table {
+        clock: time,
+        pairs: Vec::new(),
+    })
+}
+
+/// 01 "The desk's business", enrol: adds a pair with its first key, serial 1.
+pub fn enrol(
+    table: &mut Table,
+    time: u64,
+    suffix: &[u8],
+    lifetime: u64,
+    fresh: u64,
+    algorithm: u64,
+) -> Result<Done, Refusal> {
+    open(table, time)?;
+    ensure(names::is_suffix(suffix), Refusal::Name)?;
+    ensure(are_terms(lifetime, fresh), Refusal::Term)?;
+    let algorithm = Algorithm::from_number(algorithm).ok_or(Refusal::Term)?;
+    ensure(table.find(suffix).is_none(), Refusal::Twin)?;
+    ensure(table.pairs.len() < MOST_PAIRS, Refusal::Full)?;
+    let mut pair = Pair {
+        suffix: suffix.to_vec(),
+        lifetime,
+        fresh,
+        next_serial: 1,
+        keys: Keys::None,
+    };
+    pair.issue(pair.next_key(algorithm, time));
+    table.pairs.push(pair);
+    Ok(Done::with_key(table.pairs.len() - 1, 1))
+}
+
+/// 01 "The desk's business", issue: gives a pair a fresh adopted key and drops
+/// what it had.
+pub fn issue(table: &mut Table, time: u64, number: u64, algorithm: u64) -> Result<Done, Refusal> {
+    open(table, time)?;
+    let index = table.index_of(number).ok_or(Refusal::NoPair)?;
+    let pair = &mut table.pairs[index];
+    ensure(pair.next_serial < SERIAL_LIMIT, Refusal::Spent)?;
+    let algorithm = Algorithm::from_number(algorithm).ok_or(Refusal::Term)?;
+    let key = pair.next_key(algorithm, time);
+    pair.issue(key);
+    Ok(Done::with_key(index, key.serial))
+}
+
+/// 01 "The desk's business", revoke early: the adopted key's partial time, if
+/// the key is not expired.
+pub fn revoke(table: &mut Table, time: u64, number: u64) -> Result<Done, Refusal> {
+    open(table, time)?;
+    let index = table.index_of(number).ok_or(Refusal::NoPair)?;
+    let pair = &mut table.pairs[index];
+    let adopted = pair.adopted().filter(|key| time < key.expiry);
+    let serial = adopted.ok_or(Refusal::NoKey)?.serial;
+    pair.revoke(time);
+    Ok(Done::with_key(index, serial))
+}
+
+/// 01 "The desk's business", look: pair and serial of the adopted key whose
+/// name and algorithm a well-placed TSIG gives, expired or not. Changes
+/// nothing, takes no time.
+pub fn look(table: &Table, octets: &[u8]) -> Result<Done, Refusal> {
+    ensure(table.keeps_rules(), Refusal::Table)?;
+    check_size(octets)?;
+    let tsig = read_query(octets)?.tsig().ok().flatten();
+    let signer = tsig.and_then(|tsig| judging::find_signer(table, &tsig));
+    Ok(Done::with_signer(signer))
+}
+
+/// 01 "The desk's business", message: `good` is the verdict on the MAC, `offer`
+/// the offered key data. A reply fills the first octets of `reply`; a refusal
+/// writes nothing.
+pub fn message(
+    table: &mut Table,
+    time: u64,
+    good: bool,
+    octets: &[u8],
+    offer: &[u8],
+    reply: &mut [u8],
+) -> Result<Done, Refusal> {
+    open(table, time)?;
+    check_size(octets)?;
+    ensure(offer.len() <= 1024, Refusal::Offer)?;
+    let message = &read_query(octets)?;
+    let case = Case {
+        time,
+        good,
+        message,
+        offer,
+    };
+    let (signer, ruling) = judging::judge(table, &case);
+    let mut done = Done::with_signer(signer);
+    match ruling {
+        Ok(Ruling::PassUp { skew }) => done.skew = skew,
+        Err(Denial { rcode, error }) => {
+            done.length = reply::write_denial(message, rcode, reply)?;
+            done.error = error;
+        }
+        Ok(Ruling::Tkey(index, mut tkey, outcome)) => {
+            let pair = &mut table.pairs[index];
+            reply::answer(&mut tkey, &outcome, &pair.suffix, offer);
+            done.length = reply::write_outcome(message, &tkey, &outcome, reply)?;
+            change_keys(pair, &outcome, time);
+        }
+    }
+    Ok(done)
+}
+
+/// 01 "Renewal", "Adoption" and "Deletion": what happens to the keys, after
+/// the reply had room.
+fn change_keys(pair: &mut Pair, outcome: &Outcome, time: u64) {
+    match outcome {
+        Outcome::Failed(_) | Outcome::AlreadyAdopted => (),
+        Outcome::Renewed(waiting, _) => pair.renew(*waiting, time),
+        Outcome::Adopted => pair.adopt(),
+        Outcome::Deleted => pair.delete(),
+        Outcome::WaitingDeleted => pair.delete_waiting(),
+    }
+}
+
+/// Refuses unless something holds.
+fn ensure(holds: bool, refusal: Refusal) -> Result<(), Refusal> {
+    holds.then_some(()).ok_or(refusal)
+}
+
+/// 01, numbers 1 to 3. A call that passes them sets the table's clock to its
+/// time, later refusals included.
+fn open(table: &mut Table, time: u64) -> Result<(), Refusal> {
+    ensure(table.keeps_rules(), Refusal::Table)?;
+    ensure(time < TIME_LIMIT, Refusal::Time)?;
+    ensure(time >= table.clock, Refusal::Clock)?;
+    table.clock = time;
+    Ok(())
+}
+
+/// 01, number 4.
+fn check_size(octets: &[u8]) -> Result<(), Refusal> {
+    ensure((12..=65_535).contains(&octets.len()), Refusal::Size)
+}
+
+/// 01, numbers 6 and 7.
+fn read_query(octets: &[u8]) -> Result<Message<'_>, Refusal> {
+    let message = Message::read(octets).ok_or(Refusal::Format)?;
+    ensure(!message.is_response(), Refusal::NotQuery)?;
+    Ok(message)
+}

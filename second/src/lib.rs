@@ -1,0 +1,21 @@
+//! A second reader of the key desk's papers, in ordinary Rust.
+//!
+//! It is written from the papers alone: RFC 8945 (TSIG), RFC 2930 (TKEY),
+//! RFC 1035 (messages), document 002 (renewal draft 05) and document 01, whose
+//! order the modules follow. "Ruling N" is a ruling on an open point.
+//!
+//! A message call first reads the whole message (`wire`), then judges it
+//! without changing anything (`judging`), then writes the reply (`reply`), and
+//! only then changes keys (`calls`).
+#![forbid(unsafe_code)]
+
+pub mod calls;
+mod judging;
+pub mod names;
+mod reply;
+pub mod script;
+pub mod table;
+mod wire;
+
+pub use calls::{enrol, issue, look, message, new, revoke, Done, Refusal};
+pub use table::{Algorithm, Key, Keys, Pair, Table};

@@ -1,0 +1,95 @@
+//! Replies. 01 "The reply"; RFC 1035 §4.1.1, RFC 2930 §2, 002 §2.4.2, §2.5.2.
+
+use crate::calls::Refusal;
+use crate::judging::Outcome;
+use crate::names::Name;
+use crate::wire::{Message, Tkey, ANY, TKEY};
+
+/// 01 "Judging": earlier steps than 9 answer with RCODE and no TKEY record.
+pub fn write_denial(message: &Message, rcode: u16, reply: &mut [u8]) -> Result<usize, Refusal> {
+    write(&[&header(message, rcode, 0, 0), message.questions], reply)
+}
+
+/// 01 "The reply": the TKEY record in the answer section and, for a granted
+/// renewal, the KEY record in the additional section.
+pub fn write_outcome(
+    message: &Message,
+    tkey: &Tkey,
+    outcome: &Outcome,
+    reply: &mut [u8],
+) -> Result<usize, Refusal> {
+    // Data too long for RDLENGTH makes the reply too long as well.
+    let data_size = tkey.algorithm.len() + 16 + tkey.key_data.len() + tkey.other_data.len();
+    let data_size = u16::try_from(data_size).map_err(|_| Refusal::Room)?;
+    let (key_owner, key_rest) = match outcome {
+        Outcome::Renewed(_, record) => (record.owner(), record.after_owner),
+        _ => (None, &[][..]),
+    };
+    let pieces: [&[u8]; 18] = [
+        &header(message, 0, 1, u16::from(key_owner.is_some())),
+        message.questions,
+        tkey.name.octets(),
+        &TKEY.to_be_bytes(),
+        &ANY.to_be_bytes(),
+        &0u32.to_be_bytes(), // TTL
+        &data_size.to_be_bytes(),
+        tkey.algorithm,
+        &tkey.inception.to_be_bytes(),
+        &tkey.expiration.to_be_bytes(),
+        &tkey.mode.to_be_bytes(),
+        &tkey.error.to_be_bytes(),
+        &(tkey.key_data.len() as u16).to_be_bytes(),
+        tkey.key_data,
+        &(tkey.other_data.len() as u16).to_be_bytes(),
+        tkey.other_data,
+        key_owner.as_ref().map_or(&[], Name::octets),
+        key_rest,
+    ];
+    write(&pieces, reply)
+}
+
+/// 01 "The reply": makes the request's TKEY the reply's. A granted renewal
+/// replaces NAME, the times (mod 2^32) and key data; an adoption of the adopted
+/// key empties other data (002 §2.4.2, ruling 1); all else stays.
+pub fn answer<'a>(tkey: &mut Tkey<'a>, outcome: &Outcome, suffix: &[u8], offer: &'a [u8]) {
+    tkey.error = 0;
+    match outcome {
+        Outcome::Failed(error) => tkey.error = *error,
+        Outcome::Renewed(waiting, _) => {
+            tkey.name = Name::of_key(waiting.serial, suffix);
+            tkey.inception = waiting.inception as u32;
+            tkey.expiration = waiting.expiry as u32;
+            tkey.key_data = offer;
+        }
+        Outcome::AlreadyAdopted => tkey.other_data = &[],
+        Outcome::Adopted | Outcome::Deleted | Outcome::WaitingDeleted => (),
+    }
+}
+
+/// 01 "The reply": ID, opcode and RD as asked, QR 1, other flags 0, counts as
+/// written.
+fn header(message: &Message, rcode: u16, answers: u16, additional: u16) -> [u8; 12] {
+    let flags = 0x8000 | (message.flags & 0x7900) | rcode;
+    let count = message.question_count;
+    let words = [message.id, flags, count, answers, 0, additional];
+    let mut header = [0; 12];
+    for (place, word) in header.chunks_exact_mut(2).zip(words) {
+        place.copy_from_slice(&word.to_be_bytes());
+    }
+    header
+}
+
+/// 01, number 8: writes the pieces one after another, or nothing at all.
+fn write(pieces: &[&[u8]], reply: &mut [u8]) -> Result<usize, Refusal> {
+    let length = pieces.iter().map(|piece| piece.len()).sum();
+    if length > 65_535 || length > reply.len() {
+        return Err(Refusal::Room);
+    }
+    let mut rest = reply;
+    for piece in pieces {
+        let (place, after) = rest.split_at_mut(piece.len());
+        place.copy_from_slice(piece);
+        rest = after;
+    }
+    Ok(length)
+}

@@ -1,0 +1,235 @@
+//! The text of scripts, results and the listing. formats/SCRIPT.md and the
+//! rulings on the script text; the listing is CR 7's, without CR 9's floor.
+
+use std::io::{self, BufRead, Read, Write};
+
+use crate::calls::{self, Done, Refusal};
+use crate::table::{Key, Table};
+
+/// The most octets of a line, its newline not counted.
+pub const LONGEST_LINE: usize = 200_000;
+/// The most room that a reply can use.
+const MOST_ROOM: usize = 65_535;
+
+/// Runs a script line by line, from the empty table with clock 0.
+#[derive(Debug)]
+pub struct Runner {
+    table: Table,
+    line: u64,
+    reply: Vec<u8>,
+}
+
+impl Default for Runner {
+    fn default() -> Runner {
+        Runner::new()
+    }
+}
+
+impl Runner {
+    /// SCRIPT.md: the start of a run.
+    pub fn new() -> Runner {
+        Runner {
+            table: Table::default(),
+            line: 0,
+            reply: vec![0; MOST_ROOM],
+        }
+    }
+
+    /// The run's table as it stands.
+    pub fn table(&self) -> &Table {
+        &self.table
+    }
+
+    /// One line without its newline; its output is appended to `out`.
+    pub fn line(&mut self, line: &[u8], out: &mut Vec<u8>) {
+        if line.len() > LONGEST_LINE {
+            return self.too_long(out);
+        }
+        self.line += 1;
+        if line == b"list" {
+            print_listing(&self.table, out);
+        } else if let Some(result) = self.call(line) {
+            print_result(result, &self.reply, out);
+        } else {
+            print_bad_line(self.line, out);
+        }
+    }
+
+    /// A line of over 200,000 octets, whatever it says.
+    pub fn too_long(&mut self, out: &mut Vec<u8>) {
+        self.line += 1;
+        print_bad_line(self.line, out);
+    }
+
+    /// SCRIPT.md: one call, its words parted by exactly one space. `None` is a
+    /// bad line: all words are read before a call is made.
+    fn call(&mut self, line: &[u8]) -> Option<Result<Done, Refusal>> {
+        let table = &mut self.table;
+        // No call has more than six words.
+        let words: Vec<&[u8]> = line.splitn(7, |&octet| octet == b' ').collect();
+        Some(match words[..] {
+            [b"new", time] => calls::new(number(time)?).map(|new| {
+                *table = new;
+                Done::default()
+            }),
+            [b"enrol", time, suffix, lifetime, fresh, algorithm] => calls::enrol(
+                table,
+                number(time)?,
+                &octets(suffix)?,
+                number(lifetime)?,
+                number(fresh)?,
+                number(algorithm)?,
+            ),
+            [b"issue", time, pair, algorithm] => {
+                calls::issue(table, number(time)?, number(pair)?, number(algorithm)?)
+            }
+            [b"revoke", time, pair] => calls::revoke(table, number(time)?, number(pair)?),
+            [b"look", message] => calls::look(table, &octets(message)?),
+            [b"message", time, verdict, offer, room, message] => calls::message(
+                table,
+                number(time)?,
+                is_good(verdict)?,
+                &octets(message)?,
+                &octets(offer)?,
+                &mut self.reply[..most_room(number(room)?)],
+            ),
+            _ => return None,
+        })
+    }
+}
+
+/// SECOND.md: runs a whole script. A line is what stands before a newline, or
+/// the non-empty rest at the end; an over-long one is skipped to its newline.
+pub fn run(input: &mut impl BufRead, output: &mut impl Write) -> io::Result<()> {
+    let mut runner = Runner::new();
+    let mut line = Vec::new();
+    let mut out = Vec::new();
+    loop {
+        line.clear();
+        let mut start = input.by_ref().take(LONGEST_LINE as u64 + 1);
+        if start.read_until(b'\n', &mut line)? == 0 {
+            return output.flush();
+        }
+        if line.last() == Some(&b'\n') {
+            line.pop();
+            runner.line(&line, &mut out);
+        } else if line.len() > LONGEST_LINE {
+            input.skip_until(b'\n')?;
+            runner.too_long(&mut out);
+        } else {
+            runner.line(&line, &mut out);
+        }
+        output.write_all(&out)?;
+        out.clear();
+    }
+}
+
+/// SECOND.md: one or more decimal digits with a value below 2^64.
+fn number(word: &[u8]) -> Option<u64> {
+    let add = |value: u64, digit: &u8| match digit {
+        b'0'..=b'9' => value.checked_mul(10)?.checked_add(u64::from(digit - b'0')),
+        _ => None,
+    };
+    word.first()?;
+    word.iter().try_fold(0, add)
+}
+
+/// SCRIPT.md: room above 65,535 does as 65,535 does.
+fn most_room(room: u64) -> usize {
+    usize::try_from(room).map_or(MOST_ROOM, |room| room.min(MOST_ROOM))
+}
+
+/// SECOND.md: the verdict, in lower case only.
+fn is_good(word: &[u8]) -> Option<bool> {
+    match word {
+        b"good" => Some(true),
+        b"bad" => Some(false),
+        _ => None,
+    }
+}
+
+/// SECOND.md: an even, non-zero count of hexadecimal digits, or `-` alone.
+fn octets(word: &[u8]) -> Option<Vec<u8>> {
+    if word == b"-" {
+        return Some(Vec::new());
+    }
+    let pairs = word.chunks_exact(2);
+    if word.is_empty() || !pairs.remainder().is_empty() {
+        return None;
+    }
+    pairs
+        .map(|pair| Some((digit(pair[0])? << 4) | digit(pair[1])?))
+        .collect()
+}
+
+/// A hexadecimal digit of either case.
+fn digit(octet: u8) -> Option<u8> {
+    match octet {
+        b'0'..=b'9' => Some(octet - b'0'),
+        b'a'..=b'f' => Some(octet - b'a' + 10),
+        b'A'..=b'F' => Some(octet - b'A' + 10),
+        _ => None,
+    }
+}
+
+/// Appends text; a vector takes it all.
+fn print(out: &mut Vec<u8>, text: std::fmt::Arguments) {
+    out.write_fmt(text).expect("a vector takes all octets");
+}
+
+/// Octets in lower-case hexadecimal.
+fn print_hex(octets: &[u8], out: &mut Vec<u8>) {
+    const DIGITS: &[u8; 16] = b"0123456789abcdef";
+    for octet in octets {
+        out.push(DIGITS[usize::from(octet >> 4)]);
+        out.push(DIGITS[usize::from(octet & 15)]);
+    }
+}
+
+/// SCRIPT.md, a line that does not read.
+fn print_bad_line(line: u64, out: &mut Vec<u8>) {
+    print(out, format_args!("bad line {line}\n"));
+}
+
+/// SCRIPT.md: NUMBER LENGTH TSIGERROR SKEW PAIR SERIAL REPLY. A refusal
+/// returns its number, all else 0.
+fn print_result(result: Result<Done, Refusal>, reply: &[u8], out: &mut Vec<u8>) {
+    let number = result.err().map_or(0, |refusal| refusal as u8);
+    let done = result.unwrap_or_default();
+    let (length, error, skew) = (done.length, done.error, done.skew);
+    let (pair, serial) = (done.pair, done.serial);
+    let text = format_args!("{number} {length} {error} {skew} {pair} {serial} ");
+    print(out, text);
+    match &reply[..length] {
+        [] => out.push(b'-'),
+        reply => print_hex(reply, out),
+    }
+    out.push(b'\n');
+}
+
+/// CR 7: the table as lines of text, fields parted by tabs.
+pub fn print_listing(table: &Table, out: &mut Vec<u8>) {
+    print(out, format_args!("clock\t{}\n", table.clock));
+    for pair in &table.pairs {
+        out.extend_from_slice(b"pair\t");
+        print_hex(&pair.suffix, out);
+        let (next, lifetime, fresh) = (pair.next_serial, pair.lifetime, pair.fresh);
+        print(out, format_args!("\t{next}\t{lifetime}\t{fresh}\n"));
+        if let Some(key) = pair.adopted() {
+            print_key("adopted", key, out);
+        }
+        if let Some(key) = pair.waiting() {
+            print_key("waiting", key, out);
+        }
+    }
+}
+
+/// CR 7: one key's line.
+fn print_key(state: &str, key: &Key, out: &mut Vec<u8>) {
+    let (serial, algorithm) = (key.serial, key.algorithm.text());
+    let (inception, partial, expiry) = (key.inception, key.partial, key.expiry);
+    print(
+        out,
+        format_args!("key\t{state}\t{serial}\t{algorithm}\t{inception}\t{partial}\t{expiry}\n"),
+    );
+}

@@ -1,0 +1,345 @@
+//! Reading messages. 01 "Reading"; RFC 1035 §4, RFC 8945 §4.2, RFC 2930 §2.
+
+use crate::names::{self, Name};
+
+// Types of records, and the class ANY.
+pub const KEY: u16 = 25;
+pub const TKEY: u16 = 249;
+pub const TSIG: u16 = 250;
+pub const ANY: u16 = 255;
+
+/// Octets read from the front; `None` where one is missing.
+struct Cursor<'a> {
+    octets: &'a [u8],
+    place: usize,
+}
+
+impl<'a> Cursor<'a> {
+    fn new(octets: &'a [u8]) -> Cursor<'a> {
+        Cursor { octets, place: 0 }
+    }
+
+    /// The next `count` octets.
+    fn take(&mut self, count: usize) -> Option<&'a [u8]> {
+        let taken = self.octets[self.place..].get(..count)?;
+        self.place += count;
+        Some(taken)
+    }
+
+    fn array<const N: usize>(&mut self) -> Option<[u8; N]> {
+        self.take(N)?.try_into().ok()
+    }
+
+    fn u16(&mut self) -> Option<u16> {
+        self.array().map(u16::from_be_bytes)
+    }
+
+    fn u32(&mut self) -> Option<u32> {
+        self.array().map(u32::from_be_bytes)
+    }
+
+    /// RFC 8945 §4.2: 48 bits of time signed.
+    fn u48(&mut self) -> Option<u64> {
+        let [a, b, c, d, e, f] = self.array()?;
+        Some(u64::from_be_bytes([0, 0, a, b, c, d, e, f]))
+    }
+
+    /// A 16-bit size and so many octets.
+    fn sized(&mut self) -> Option<&'a [u8]> {
+        let size = self.u16()?;
+        self.take(usize::from(size))
+    }
+
+    /// A name that may be compressed; answers with its place.
+    fn name(&mut self) -> Option<usize> {
+        let start = self.place;
+        self.place = names::skip(self.octets, start)?;
+        Some(start)
+    }
+
+    /// A name that may not be compressed.
+    fn plain_name(&mut self) -> Option<&'a [u8]> {
+        let name = names::plain(&self.octets[self.place..])?;
+        self.place += name.len();
+        Some(name)
+    }
+
+    /// Whether nothing is left over.
+    fn at_end(&self) -> bool {
+        self.place == self.octets.len()
+    }
+}
+
+/// One record where it lies in its message, its owner name known to be good.
+#[derive(Clone, Copy, Debug)]
+pub struct Record<'a> {
+    message: &'a [u8],
+    owner: usize,
+    index: usize,
+    in_additional: bool,
+    kind: u16,
+    class: u16,
+    ttl: u32,
+    data: &'a [u8],
+    /// The octets from TYPE to the end of the data.
+    pub after_owner: &'a [u8],
+}
+
+impl<'a> Record<'a> {
+    /// RFC 1035 §4.1.3.
+    fn read(cursor: &mut Cursor<'a>, index: usize, in_additional: bool) -> Option<Record<'a>> {
+        let message = cursor.octets;
+        let owner = cursor.name()?;
+        let start = cursor.place;
+        let (kind, class, ttl) = (cursor.u16()?, cursor.u16()?, cursor.u32()?);
+        let data = cursor.sized()?;
+        Some(Record {
+            message,
+            owner,
+            index,
+            in_additional,
+            kind,
+            class,
+            ttl,
+            data,
+            after_owner: &message[start..cursor.place],
+        })
+    }
+
+    /// The owner name, written out.
+    pub fn owner(&self) -> Option<Name> {
+        names::expand(self.message, self.owner)
+    }
+}
+
+/// The records of one type.
+#[derive(Clone, Copy, Debug)]
+pub enum Found<'a> {
+    None,
+    One(Record<'a>),
+    More,
+}
+
+impl<'a> Found<'a> {
+    fn add(&mut self, record: Record<'a>) {
+        *self = match self {
+            Found::None => Found::One(record),
+            _ => Found::More,
+        };
+    }
+}
+
+/// A message, as far as the desk wants to know it.
+#[derive(Clone, Debug)]
+pub struct Message<'a> {
+    pub id: u16,
+    /// QR, opcode, AA, TC, RD, RA, Z and RCODE.
+    pub flags: u16,
+    pub question_count: u16,
+    /// The octets of all questions.
+    pub questions: &'a [u8],
+    /// Type and class of the last question.
+    asked: Option<(u16, u16)>,
+    record_count: usize,
+    tsigs: Found<'a>,
+    tkeys: Found<'a>,
+    /// KEY records count in the additional section only (ruling 6).
+    pub keys: Found<'a>,
+}
+
+/// A TSIG that is ill formed or not in its place.
+pub struct BadTsig;
+
+impl<'a> Message<'a> {
+    /// 01 "Reading": header, then questions, then records, as counted, and
+    /// nothing left over. `None` is FORMAT.
+    pub fn read(octets: &'a [u8]) -> Option<Message<'a>> {
+        let mut cursor = Cursor::new(octets);
+        let mut message = Message {
+            id: cursor.u16()?,
+            flags: cursor.u16()?,
+            question_count: cursor.u16()?,
+            questions: &[],
+            asked: None,
+            record_count: 0,
+            tsigs: Found::None,
+            tkeys: Found::None,
+            keys: Found::None,
+        };
+        let [answer, authority, additional] = [cursor.u16()?, cursor.u16()?, cursor.u16()?];
+        message.read_questions(&mut cursor)?;
+        message.read_section(&mut cursor, answer, false)?;
+        message.read_section(&mut cursor, authority, false)?;
+        message.read_section(&mut cursor, additional, true)?;
+        cursor.at_end().then_some(message)
+    }
+
+    /// RFC 1035 §4.1.2.
+    fn read_questions(&mut self, cursor: &mut Cursor<'a>) -> Option<()> {
+        let start = cursor.place;
+        for _ in 0..self.question_count {
+            cursor.name()?;
+            self.asked = Some((cursor.u16()?, cursor.u16()?));
+        }
+        self.questions = &cursor.octets[start..cursor.place];
+        Some(())
+    }
+
+    /// Reads the records of a section and keeps those of interest.
+    fn read_section(
+        &mut self,
+        cursor: &mut Cursor<'a>,
+        count: u16,
+        is_additional: bool,
+    ) -> Option<()> {
+        for _ in 0..count {
+            let record = Record::read(cursor, self.record_count, is_additional)?;
+            self.record_count += 1;
+            match record.kind {
+                TSIG => self.tsigs.add(record),
+                TKEY => self.tkeys.add(record),
+                KEY if is_additional => self.keys.add(record),
+                _ => (),
+            }
+        }
+        Some(())
+    }
+
+    /// 01, number 7: the QR bit.
+    pub fn is_response(&self) -> bool {
+        self.flags & 0x8000 != 0
+    }
+
+    /// 01 "Reading", last paragraph: opcode 0 and one question, of type 249
+    /// and class 255.
+    pub fn is_tkey_request(&self) -> bool {
+        self.flags & 0x7800 == 0 && self.question_count == 1 && self.asked == Some((TKEY, ANY))
+    }
+
+    /// 01 "Judging" step 1, for the whole message (ruling 4): its TSIG, if any,
+    /// is the very last record, in the additional section, and well formed.
+    pub fn tsig(&self) -> Result<Option<Tsig<'a>>, BadTsig> {
+        match self.tsigs {
+            Found::None => Ok(None),
+            Found::One(record) if record.in_additional && record.index + 1 == self.record_count => {
+                Tsig::read(&record).map(Some).ok_or(BadTsig)
+            }
+            _ => Err(BadTsig),
+        }
+    }
+
+    /// 01 "Judging" step 6: exactly one TKEY record in the whole message, in
+    /// the additional section and well formed.
+    pub fn tkey(&self) -> Option<Tkey<'a>> {
+        match self.tkeys {
+            Found::One(record) if record.in_additional => Tkey::read(&record),
+            _ => None,
+        }
+    }
+}
+
+/// A TSIG record (RFC 8945 §4.2), as far as judging wants it.
+#[derive(Clone, Debug)]
+pub struct Tsig<'a> {
+    /// The owner name, written out.
+    pub name: Name,
+    pub algorithm: &'a [u8],
+    pub time_signed: u64,
+    pub fudge: u16,
+    pub mac_size: usize,
+}
+
+impl<'a> Tsig<'a> {
+    /// 01 "Reading", second paragraph. `None` is ill formed.
+    fn read(record: &Record<'a>) -> Option<Tsig<'a>> {
+        if record.class != ANY || record.ttl != 0 {
+            return None;
+        }
+        let mut data = Cursor::new(record.data);
+        let tsig = Tsig {
+            name: record.owner()?,
+            algorithm: data.plain_name()?,
+            time_signed: data.u48()?,
+            fudge: data.u16()?,
+            mac_size: data.sized()?.len(),
+        };
+        let (_original_id, _error, _other_data) = (data.u16()?, data.u16()?, data.sized()?);
+        data.at_end().then_some(tsig)
+    }
+}
+
+/// A TKEY record (RFC 2930 §2).
+#[derive(Clone, Debug)]
+pub struct Tkey<'a> {
+    /// The owner name, written out.
+    pub name: Name,
+    pub algorithm: &'a [u8],
+    pub inception: u32,
+    pub expiration: u32,
+    pub mode: u16,
+    pub error: u16,
+    pub key_data: &'a [u8],
+    pub other_data: &'a [u8],
+    pub task: Task<'a>,
+}
+
+impl<'a> Tkey<'a> {
+    /// 01 "Reading", second paragraph; class and TTL are ignored. `None` is ill
+    /// formed, which other data is in modes 4098 and 4100 only (ruling 5).
+    fn read(record: &Record<'a>) -> Option<Tkey<'a>> {
+        let mut data = Cursor::new(record.data);
+        let mut tkey = Tkey {
+            name: record.owner()?,
+            algorithm: data.plain_name()?,
+            inception: data.u32()?,
+            expiration: data.u32()?,
+            mode: data.u16()?,
+            error: data.u16()?,
+            key_data: data.sized()?,
+            other_data: data.sized()?,
+            task: Task::Unsupported,
+        };
+        tkey.task = Task::read(tkey.mode, tkey.other_data)?;
+        data.at_end().then_some(tkey)
+    }
+}
+
+/// What a TKEY asks for.
+#[derive(Clone, Copy, Debug)]
+pub enum Task<'a> {
+    Deletion,
+    Renewal(OldKey<'a>),
+    Adoption(OldKey<'a>),
+    Unsupported,
+}
+
+impl<'a> Task<'a> {
+    /// 01 "Reading", modes.
+    fn read(mode: u16, other_data: &'a [u8]) -> Option<Task<'a>> {
+        Some(match mode {
+            5 => Task::Deletion,
+            4098 => Task::Renewal(OldKey::read(other_data)?),
+            4100 => Task::Adoption(OldKey::read(other_data)?),
+            _ => Task::Unsupported,
+        })
+    }
+}
+
+/// The other data of renewal and adoption: OldName and OldAlgorithm.
+#[derive(Clone, Copy, Debug)]
+pub struct OldKey<'a> {
+    pub name: &'a [u8],
+    pub algorithm: &'a [u8],
+}
+
+impl<'a> OldKey<'a> {
+    /// 01 "Reading", second paragraph; 002 §2.3.4: both names, nothing more.
+    fn read(other_data: &'a [u8]) -> Option<OldKey<'a>> {
+        let mut other = Cursor::new(other_data);
+        let old = OldKey {
+            name: other.plain_name()?,
+            algorithm: other.plain_name()?,
+        };
+        other.at_end().then_some(old)
+    }
+}

@@ -1,0 +1,11 @@
+//! Tests of the second reader, by the sections of document 01.
+
+mod build;
+mod clients;
+mod day;
+mod judging;
+mod reading;
+mod refusals;
+mod replies;
+mod script;
+mod tables;

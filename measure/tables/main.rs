@@ -98,10 +98,17 @@ mod plain {
         false
     }
 
+    fn print_of(s: &[u8]) -> u64 {
+        s.iter().fold(0, |p, &x| (p * 65599 + lower(x) as u64) % (1 << 32))
+    }
+
     fn names_rule(t: &Table) -> bool {
+        let mut prints = [0; 64];
         (0..t.count).all(|i| {
-            let n = t.lengths[i];
-            3 <= n && n <= 128 && wire_name(suffix_at(t, i)) && find(t, i, suffix_at(t, i)).is_none()
+            let (n, s) = (t.lengths[i], suffix_at(t, i));
+            prints[i] = print_of(s);
+            let twin = |j| prints[j] == prints[i] && same_name(suffix_at(t, j), s);
+            3 <= n && n <= 128 && wire_name(s) && !(0..i).any(twin)
         })
     }
 

@@ -169,7 +169,7 @@ pub fn read_plain(d: &[u8], out: &mut [u8; 255], at: usize) -> Got
 }
 
 // Names compare without regard to the case of A to Z (RFC 1035, 2.3.3; RFC 4343).
-fn lower(x: u8) -> u8
+pub fn lower(x: u8) -> u8
     ensures { λ r. ⌜ r ≡ lowerOf x ⌝ }
 {
     match x {

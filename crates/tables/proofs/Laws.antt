@@ -135,10 +135,6 @@ module _ (count : ℕ) (s l name : List ℕ) (m i : ℕ) (past : length l ≤ i)
 -- ── The rule of a suffix ────────────────────────────────────────────────────────────────────────────────────────────
 
 module _ (count : ℕ) (s l : List ℕ) (i : ℕ) where
-  pub rule-past : length l ≤ i → suffixRule (namesIn count s l) i ≡ false
-  unfolding suffixRule suffixOk
-  rule-past h = rw (List·getD-eq-default l 0 h) refl
-
   pub rule-long : 128 < getD l i 0 → suffixRule (namesIn count s l) i ≡ false
   unfolding suffixRule suffixOk
   rule-long h = rw (lt-leb _ _ h, and-false (leb 3 (getD l i 0)) refl) refl
@@ -158,11 +154,8 @@ module _ (count : ℕ) (s l : List ℕ) (i : ℕ) where
     pub rule-invalid : suffixOk (length lent) lent ≡ false → suffixRule (namesIn count s l) i ≡ false
     rule-invalid o = rule ∙ rw o refl
 
-    pub rule-twin : {k : ℕ} → rowNamed (namesIn count s l) i lent ≡ some k → suffixRule (namesIn count s l) i ≡ false
-    rule-twin e = rule ∙ rw e (and-false (suffixOk (length lent) lent) refl)
-
-    pub rule-good : suffixOk (length lent) lent ≡ true → rowNamed (namesIn count s l) i lent ≡ none → suffixRule (namesIn count s l) i ≡ true
-    rule-good o e = rule ∙ rw (o, e) refl
+    pub rule-new : suffixOk (length lent) lent ≡ true → suffixRule (namesIn count s l) i ≡ isNone (rowNamed (namesIn count s l) i lent)
+    rule-new o = rule ∙ rw o refl
 
 pub names-by : (n : Names) {t : Bool} → n .count ≤ 64 → allFrom (suffixRule n) (n .count) 0 ≡ t → namesRule n ≡ t
 unfolding namesRule

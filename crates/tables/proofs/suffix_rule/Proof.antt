@@ -2,16 +2,11 @@
 use mathlib.Core.Path.{refl, sym, ap, _∙_}
 use borrow.Author.Tests.{not-true, not-false}
 use native.Mathlib.Omega.{arith}
-use Rattle.tables.proofs.Laws.{rule-past, rule-long, rule-invalid, rule-twin, rule-good}
-use Rattle.tables.specs.Rows.{rowOf}
+use Rattle.tables.proofs.Laws.{suffix-part, rule-long, rule-invalid, rule-new}
+use Rattle.tables.specs.Prints.{printOf}
 use borrow.Author.Needs.{needs}
 use Rattle.tables.proofs.suffix_rule.Statement.{statement}
 use Rattle.tables.proofs.suffix_rule.Tie as tie
-
-returns : tie.Need-returns
-returns c = λ count.
-    let a = c .before .before .before .args in
-    sym (rule-past count (a .suffixes .now) (a .lengths .now) (a .i) (omega arith))
 
 mul-n : tie.Need-mul-n
 mul-n c = search needs
@@ -19,10 +14,10 @@ mul-n c = search needs
 shared-slice-read-n : tie.Need-shared-slice-read-n
 shared-slice-read-n c = search needs
 
-returns-2 : tie.Need-returns-2
-returns-2 c = λ count.
-    let a = c .before .before .before .before .before .args in
-    sym (rule-long count (a .suffixes .now) (a .lengths .now) (a .i) (c .if2 .taken))
+returns : tie.Need-returns
+returns c = λ count.
+    let a = c .before .before .before .before .args in
+    sym (rule-long count (a .suffixes .now) (a .lengths .now) (a .i) (c .if1 .taken))
 
 mul-at : tie.Need-mul-at
 mul-at c = search needs
@@ -42,47 +37,35 @@ part-s-end c = search needs
 suffix-ok-requires : tie.Need-suffix-ok-requires
 suffix-ok-requires c κs = search needs
 
+returns-2 : tie.Need-returns-2
+returns-2 c = λ count.
+    let a = c .before .before .before .before .before .before .before .args in
+    sym (rule-invalid count (a .suffixes .now) (a .lengths .now) (a .i) _ refl (omega arith) (sym (c .before .suffix-ok .ensures) ∙ not-true _ (c .if2 .taken)))
+
+is-new-requires : tie.Need-is-new-requires
+is-new-requires c κs =
+    let h = c .before .before .before .before .before .before .before in
+    let a = h .args in
+    (search needs, h .pre .1 0 ∙ ap printOf (sym (suffix-part 0 (a .suffixes .now) (a .lengths .now) (a .i) _ refl)), h .pre .2)
+
 returns-3 : tie.Need-returns-3
 returns-3 c = λ count.
     let a = c .before .before .before .before .before .before .before .before .args in
-    sym (rule-invalid count (a .suffixes .now) (a .lengths .now) (a .i) _ refl (omega arith) (sym (c .before .suffix-ok .ensures) ∙ not-true _ (c .if3 .taken)))
-
-find-requires : tie.Need-find-requires
-find-requires c κs = search needs
-
-enum-told : tie.Need-enum-told
-enum-told c = search needs
-
-enum-told-2 : tie.Need-enum-told-2
-enum-told-2 c = search needs
-
-returns-4 : tie.Need-returns-4
-returns-4 c = λ count.
-    let a = c .before .before .before .before .before .before .before .before .before .before .before .args in
-    sym (rule-twin count (a .suffixes .now) (a .lengths .now) (a .i) _ refl (omega arith) (c .before .before .find .ensures count ∙ ap rowOf (c .enum-told .given .1)))
-
-returns-5 : tie.Need-returns-5
-returns-5 c = λ count.
-    let a = c .before .before .before .before .before .before .before .before .before .before .before .args in
-    sym (rule-good count (a .suffixes .now) (a .lengths .now) (a .i) _ refl (omega arith) (sym (c .before .before .before .before .suffix-ok .ensures) ∙ not-false _ (c .before .before .before .if3 .left)) (c .before .before .find .ensures count ∙ ap rowOf (c .enum-told2 .given .1)))
+    c .is-new .ensures count ∙ sym (rule-new count (a .suffixes .now) (a .lengths .now) (a .i) _ refl (omega arith) (sym (c .before .before .suffix-ok .ensures) ∙ not-false _ (c .before .if2 .left)))
 
 pub suffix-rule-spec : {M : Type 1} → statement M
 suffix-rule-spec =
     tie.close
     (tie.spec
-    returns
     mul-n
     shared-slice-read-n
-    returns-2
+    returns
     mul-at
     add-end
     sub-s
     part-s-start
     part-s-end
     suffix-ok-requires
-    returns-3
-    find-requires
-    enum-told
-    enum-told-2
-    returns-4
-    returns-5)
+    returns-2
+    is-new-requires
+    returns-3)

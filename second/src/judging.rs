@@ -18,7 +18,7 @@ const BADTIME: u16 = 18;
 const BADMODE: u16 = 19;
 const BADNAME: u16 = 20;
 const BADALG: u16 = 21;
-const PARTIAL_REVOKE: u16 = 3841;
+pub const PARTIAL_REVOKE: u16 = 3841;
 
 /// What a message call takes beside the table and the reply buffer.
 pub struct Case<'c, 'a> {

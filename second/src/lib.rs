@@ -7,12 +7,16 @@
 //! A message call first reads the whole message (`wire`), then judges it
 //! without changing anything (`judging`), then writes the reply (`reply`), and
 //! only then changes keys (`calls`).
+//!
+//! `resolver` is the other half of the protocol (CR 1): it writes the requests
+//! and reads the replies.
 #![forbid(unsafe_code)]
 
 pub mod calls;
 mod judging;
 pub mod names;
 mod reply;
+pub mod resolver;
 pub mod script;
 pub mod table;
 mod wire;

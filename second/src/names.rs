@@ -150,8 +150,13 @@ pub fn plain(octets: &[u8]) -> Option<&[u8]> {
     }
 }
 
+/// Whether the octets are a wire name, never compressed, and nothing more.
+pub fn is_name(octets: &[u8]) -> bool {
+    plain(octets) == Some(octets)
+}
+
 /// 01 "The desk's business", number 12: an uncompressed wire name of 3 to 128
 /// octets and nothing more.
 pub fn is_suffix(octets: &[u8]) -> bool {
-    (3..=128).contains(&octets.len()) && plain(octets) == Some(octets)
+    (3..=128).contains(&octets.len()) && is_name(octets)
 }

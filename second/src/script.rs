@@ -4,19 +4,25 @@
 use std::io::{self, BufRead, Read, Write};
 
 use crate::calls::{self, Done, Refusal};
-use crate::table::{Key, Table};
+use crate::resolver::{self, Asked, Resolver, Which, Wish, Written};
+use crate::table::{Algorithm, Key, Table};
 
 /// The most octets of a line, its newline not counted.
 pub const LONGEST_LINE: usize = 200_000;
-/// The most room that a reply can use.
+/// The most room that a reply or a request can use.
 const MOST_ROOM: usize = 65_535;
+/// The most octets of a name that the resolver is given to hold.
+const LONGEST_HELD: usize = 255;
 
-/// Runs a script line by line, from the empty table with clock 0.
+/// Runs a script line by line, from the empty table with clock 0 and a resolver
+/// without a key.
 #[derive(Debug)]
 pub struct Runner {
     table: Table,
+    resolver: Resolver,
     line: u64,
-    reply: Vec<u8>,
+    /// What is lent for replies and requests.
+    buffer: Vec<u8>,
 }
 
 impl Default for Runner {
@@ -30,8 +36,9 @@ impl Runner {
     pub fn new() -> Runner {
         Runner {
             table: Table::default(),
+            resolver: Resolver::default(),
             line: 0,
-            reply: vec![0; MOST_ROOM],
+            buffer: vec![0; MOST_ROOM],
         }
     }
 
@@ -40,17 +47,28 @@ impl Runner {
         &self.table
     }
 
+    /// The run's resolver as it stands.
+    pub fn resolver(&self) -> &Resolver {
+        &self.resolver
+    }
+
     /// One line without its newline; its output is appended to `out`.
     pub fn line(&mut self, line: &[u8], out: &mut Vec<u8>) {
         if line.len() > LONGEST_LINE {
             return self.too_long(out);
         }
         self.line += 1;
+        // No line has more than eight words.
+        let words: Vec<&[u8]> = line.splitn(9, |&octet| octet == b' ').collect();
         if line == b"list" {
             print_listing(&self.table, out);
-        } else if let Some(result) = self.call(line) {
-            print_result(result, &self.reply, out);
-        } else {
+        } else if line == b"keys" {
+            print_resolver(&self.resolver, out);
+        } else if let Some(result) = self.call(&words) {
+            print_result(result, &self.buffer, out);
+        } else if let Some(result) = self.write_request(&words) {
+            print_written(result, &self.buffer, out);
+        } else if self.tell_resolver(&words, out).is_none() {
             print_bad_line(self.line, out);
         }
     }
@@ -63,11 +81,9 @@ impl Runner {
 
     /// SCRIPT.md: one call, its words parted by exactly one space. `None` is a
     /// bad line: all words are read before a call is made.
-    fn call(&mut self, line: &[u8]) -> Option<Result<Done, Refusal>> {
+    fn call(&mut self, words: &[&[u8]]) -> Option<Result<Done, Refusal>> {
         let table = &mut self.table;
-        // No call has more than six words.
-        let words: Vec<&[u8]> = line.splitn(7, |&octet| octet == b' ').collect();
-        Some(match words[..] {
+        Some(match *words {
             [b"new", time] => calls::new(number(time)?).map(|new| {
                 *table = new;
                 Done::default()
@@ -91,10 +107,61 @@ impl Runner {
                 is_good(verdict)?,
                 &octets(message)?,
                 &octets(offer)?,
-                &mut self.reply[..most_room(number(room)?)],
+                lent(&mut self.buffer, room)?,
             ),
             _ => return None,
         })
+    }
+
+    /// SCRIPT.md, the resolver's lines: the calls that write a request.
+    fn write_request(&mut self, words: &[&[u8]]) -> Option<Result<Written, resolver::Refusal>> {
+        let (resolver, buffer) = (&mut self.resolver, &mut self.buffer);
+        Some(match *words {
+            [b"renewal", id, name, algorithm, inception, expiration, key_record, room] => {
+                let wish = Wish {
+                    name: match name {
+                        b"-" => &[0],
+                        name => &octets(name)?,
+                    },
+                    algorithm: Algorithm::from_number(number(algorithm)?)?,
+                    inception: u32::try_from(number(inception)?).ok()?,
+                    expiration: u32::try_from(number(expiration)?).ok()?,
+                    key_record: &octets(key_record)?,
+                };
+                resolver.renewal(id_number(id)?, &wish, lent(buffer, room)?)
+            }
+            [b"adoption", id, room] => resolver.adoption(id_number(id)?, lent(buffer, room)?),
+            [b"deletion", id, room] => resolver.deletion(id_number(id)?, lent(buffer, room)?),
+            _ => return None,
+        })
+    }
+
+    /// SCRIPT.md, the resolver's lines: those that print no request.
+    fn tell_resolver(&mut self, words: &[&[u8]], out: &mut Vec<u8>) -> Option<()> {
+        match *words {
+            [b"hold", name, algorithm, inception, expiration] => {
+                let adopted = resolver::Key {
+                    name: octets(name).filter(|name| name.len() <= LONGEST_HELD)?,
+                    algorithm: Algorithm::from_number(number(algorithm)?)?,
+                    inception: u32::try_from(number(inception)?).ok()?,
+                    expiration: u32::try_from(number(expiration)?).ok()?,
+                };
+                self.resolver = Resolver::holding(adopted);
+                print(out, format_args!("0\n"));
+            }
+            [b"note", id] => {
+                self.resolver.note(id_number(id)?);
+                print(out, format_args!("0\n"));
+            }
+            [b"reply", verdict, message] => {
+                let result = self.resolver.reply(is_good(verdict)?, &octets(message)?);
+                let number = result.err().map_or(0, |refusal| refusal as u8);
+                let due = if result == Ok(true) { "due" } else { "-" };
+                print(out, format_args!("{number} {due}\n"));
+            }
+            _ => return None,
+        }
+        Some(())
     }
 }
 
@@ -134,9 +201,15 @@ fn number(word: &[u8]) -> Option<u64> {
     word.iter().try_fold(0, add)
 }
 
+/// SCRIPT.md: a message ID is below 65,536.
+fn id_number(word: &[u8]) -> Option<u16> {
+    u16::try_from(number(word)?).ok()
+}
+
 /// SCRIPT.md: room above 65,535 does as 65,535 does.
-fn most_room(room: u64) -> usize {
-    usize::try_from(room).map_or(MOST_ROOM, |room| room.min(MOST_ROOM))
+fn lent<'a>(buffer: &'a mut [u8], room: &[u8]) -> Option<&'a mut [u8]> {
+    let room = usize::try_from(number(room)?).unwrap_or(MOST_ROOM);
+    Some(&mut buffer[..room.min(MOST_ROOM)])
 }
 
 /// SECOND.md: the verdict, in lower case only.
@@ -200,11 +273,68 @@ fn print_result(result: Result<Done, Refusal>, reply: &[u8], out: &mut Vec<u8>) 
     let (pair, serial) = (done.pair, done.serial);
     let text = format_args!("{number} {length} {error} {skew} {pair} {serial} ");
     print(out, text);
-    match &reply[..length] {
-        [] => out.push(b'-'),
-        reply => print_hex(reply, out),
-    }
+    print_octets(&reply[..length], out);
     out.push(b'\n');
+}
+
+/// SCRIPT.md: octets in a result, `-` for none.
+fn print_octets(octets: &[u8], out: &mut Vec<u8>) {
+    match octets {
+        [] => out.push(b'-'),
+        octets => print_hex(octets, out),
+    }
+}
+
+/// SCRIPT.md: NUMBER LENGTH SIGNER OCTETS. A refusal has all else 0 or `-`.
+fn print_written(result: Result<Written, resolver::Refusal>, buffer: &[u8], out: &mut Vec<u8>) {
+    match result {
+        Ok(Written { length, signer }) => {
+            print(out, format_args!("0 {length} {} ", which(signer)));
+            print_octets(&buffer[..length], out);
+            out.push(b'\n');
+        }
+        Err(refusal) => print(out, format_args!("{} 0 - -\n", refusal as u8)),
+    }
+}
+
+/// SCRIPT.md: one of the resolver's keys.
+fn which(key: Which) -> &'static str {
+    match key {
+        Which::Adopted => "adopted",
+        Which::Offered => "offered",
+    }
+}
+
+/// SCRIPT.md, `keys`: the resolver as lines of text, fields parted by tabs.
+fn print_resolver(resolver: &Resolver, out: &mut Vec<u8>) {
+    let asked = match resolver.open.map(|request| request.asked) {
+        None => "-",
+        Some(Asked::Ordinary) => "ordinary",
+        Some(Asked::Renewal) => "renewal",
+        Some(Asked::Adoption) => "adoption",
+        Some(Asked::Deletion) => "deletion",
+    };
+    print(out, format_args!("resolver\t{asked}\t"));
+    match resolver.open {
+        None => out.push(b'-'),
+        Some(request) => print(out, format_args!("{}", request.id)),
+    }
+    print(out, format_args!("\t{}\n", which(resolver.turn)));
+    let keys = [
+        (Which::Adopted, resolver.adopted()),
+        (Which::Offered, resolver.offered()),
+    ];
+    for (place, key) in keys {
+        let Some(key) = key else { continue };
+        print(out, format_args!("key\t{}\t", which(place)));
+        print_octets(&key.name, out);
+        let (algorithm, inception) = (key.algorithm.text(), key.inception);
+        let expiration = key.expiration;
+        print(
+            out,
+            format_args!("\t{algorithm}\t{inception}\t{expiration}\n"),
+        );
+    }
 }
 
 /// CR 7: the table as lines of text, fields parted by tabs.

@@ -48,6 +48,11 @@ impl Algorithm {
         }
     }
 
+    /// RFC 8945 §6: its wire name, the text as one label and the root.
+    pub fn name(self) -> Vec<u8> {
+        [&[11], self.text().as_bytes(), &[0]].concat()
+    }
+
     /// 01 "Judging" step 4: the octets of its output.
     pub fn output(self) -> usize {
         match self {

@@ -8,6 +8,11 @@ pub const TKEY: u16 = 249;
 pub const TSIG: u16 = 250;
 pub const ANY: u16 = 255;
 
+// TKEY modes (01 "Reading").
+pub const DELETION: u16 = 5;
+pub const RENEWAL: u16 = 4098;
+pub const ADOPTION: u16 = 4100;
+
 /// Octets read from the front; `None` where one is missing.
 struct Cursor<'a> {
     octets: &'a [u8],
@@ -70,13 +75,21 @@ impl<'a> Cursor<'a> {
     }
 }
 
+/// RFC 1035 §4.1: the sections of records.
+#[derive(Clone, Copy, Debug, PartialEq, Eq)]
+enum Section {
+    Answer,
+    Authority,
+    Additional,
+}
+
 /// One record where it lies in its message, its owner name known to be good.
 #[derive(Clone, Copy, Debug)]
 pub struct Record<'a> {
     message: &'a [u8],
     owner: usize,
     index: usize,
-    in_additional: bool,
+    section: Section,
     kind: u16,
     class: u16,
     ttl: u32,
@@ -87,7 +100,7 @@ pub struct Record<'a> {
 
 impl<'a> Record<'a> {
     /// RFC 1035 §4.1.3.
-    fn read(cursor: &mut Cursor<'a>, index: usize, in_additional: bool) -> Option<Record<'a>> {
+    fn read(cursor: &mut Cursor<'a>, index: usize, section: Section) -> Option<Record<'a>> {
         let message = cursor.octets;
         let owner = cursor.name()?;
         let start = cursor.place;
@@ -97,7 +110,7 @@ impl<'a> Record<'a> {
             message,
             owner,
             index,
-            in_additional,
+            section,
             kind,
             class,
             ttl,
@@ -143,6 +156,8 @@ pub struct Message<'a> {
     record_count: usize,
     tsigs: Found<'a>,
     tkeys: Found<'a>,
+    /// Those of the TKEY records that stand in the answer section.
+    tkey_answers: Found<'a>,
     /// KEY records count in the additional section only (ruling 6).
     pub keys: Found<'a>,
 }
@@ -164,13 +179,14 @@ impl<'a> Message<'a> {
             record_count: 0,
             tsigs: Found::None,
             tkeys: Found::None,
+            tkey_answers: Found::None,
             keys: Found::None,
         };
         let [answer, authority, additional] = [cursor.u16()?, cursor.u16()?, cursor.u16()?];
         message.read_questions(&mut cursor)?;
-        message.read_section(&mut cursor, answer, false)?;
-        message.read_section(&mut cursor, authority, false)?;
-        message.read_section(&mut cursor, additional, true)?;
+        message.read_section(&mut cursor, answer, Section::Answer)?;
+        message.read_section(&mut cursor, authority, Section::Authority)?;
+        message.read_section(&mut cursor, additional, Section::Additional)?;
         cursor.at_end().then_some(message)
     }
 
@@ -190,15 +206,20 @@ impl<'a> Message<'a> {
         &mut self,
         cursor: &mut Cursor<'a>,
         count: u16,
-        is_additional: bool,
+        section: Section,
     ) -> Option<()> {
         for _ in 0..count {
-            let record = Record::read(cursor, self.record_count, is_additional)?;
+            let record = Record::read(cursor, self.record_count, section)?;
             self.record_count += 1;
             match record.kind {
                 TSIG => self.tsigs.add(record),
-                TKEY => self.tkeys.add(record),
-                KEY if is_additional => self.keys.add(record),
+                TKEY => {
+                    self.tkeys.add(record);
+                    if section == Section::Answer {
+                        self.tkey_answers.add(record);
+                    }
+                }
+                KEY if section == Section::Additional => self.keys.add(record),
                 _ => (),
             }
         }
@@ -208,6 +229,11 @@ impl<'a> Message<'a> {
     /// 01, number 7: the QR bit.
     pub fn is_response(&self) -> bool {
         self.flags & 0x8000 != 0
+    }
+
+    /// RFC 1035 §4.1.1: the low four bits of the flags.
+    pub fn rcode(&self) -> u16 {
+        self.flags & 0x000f
     }
 
     /// 01 "Reading", last paragraph: opcode 0 and one question, of type 249
@@ -221,7 +247,10 @@ impl<'a> Message<'a> {
     pub fn tsig(&self) -> Result<Option<Tsig<'a>>, BadTsig> {
         match self.tsigs {
             Found::None => Ok(None),
-            Found::One(record) if record.in_additional && record.index + 1 == self.record_count => {
+            Found::One(record)
+                if record.section == Section::Additional
+                    && record.index + 1 == self.record_count =>
+            {
                 Tsig::read(&record).map(Some).ok_or(BadTsig)
             }
             _ => Err(BadTsig),
@@ -229,10 +258,24 @@ impl<'a> Message<'a> {
     }
 
     /// 01 "Judging" step 6: exactly one TKEY record in the whole message, in
-    /// the additional section and well formed.
+    /// the additional section and well formed. Other data can be ill formed in
+    /// modes 4098 and 4100 only (ruling 5).
     pub fn tkey(&self) -> Option<Tkey<'a>> {
         match self.tkeys {
-            Found::One(record) if record.in_additional => Tkey::read(&record),
+            Found::One(record) if record.section == Section::Additional => {
+                let mut tkey = Tkey::read(&record)?;
+                tkey.task = Task::read(tkey.mode, tkey.other_data)?;
+                Some(tkey)
+            }
+            _ => None,
+        }
+    }
+
+    /// CR 1: exactly one TKEY record in the answer section, well formed, its
+    /// other data free: 002 §2.4.2 answers a repeated adoption with none.
+    pub fn tkey_answer(&self) -> Option<Tkey<'a>> {
+        match self.tkey_answers {
+            Found::One(record) => Tkey::read(&record),
             _ => None,
         }
     }
@@ -247,6 +290,7 @@ pub struct Tsig<'a> {
     pub time_signed: u64,
     pub fudge: u16,
     pub mac_size: usize,
+    pub error: u16,
 }
 
 impl<'a> Tsig<'a> {
@@ -256,14 +300,17 @@ impl<'a> Tsig<'a> {
             return None;
         }
         let mut data = Cursor::new(record.data);
-        let tsig = Tsig {
+        let mut tsig = Tsig {
             name: record.owner()?,
             algorithm: data.plain_name()?,
             time_signed: data.u48()?,
             fudge: data.u16()?,
             mac_size: data.sized()?.len(),
+            error: 0,
         };
-        let (_original_id, _error, _other_data) = (data.u16()?, data.u16()?, data.sized()?);
+        let _original_id = data.u16()?;
+        tsig.error = data.u16()?;
+        let _other_data = data.sized()?;
         data.at_end().then_some(tsig)
     }
 }
@@ -280,15 +327,16 @@ pub struct Tkey<'a> {
     pub error: u16,
     pub key_data: &'a [u8],
     pub other_data: &'a [u8],
+    /// Of a request only; an answer asks for nothing.
     pub task: Task<'a>,
 }
 
 impl<'a> Tkey<'a> {
     /// 01 "Reading", second paragraph; class and TTL are ignored. `None` is ill
-    /// formed, which other data is in modes 4098 and 4100 only (ruling 5).
+    /// formed, whatever other data says.
     fn read(record: &Record<'a>) -> Option<Tkey<'a>> {
         let mut data = Cursor::new(record.data);
-        let mut tkey = Tkey {
+        let tkey = Tkey {
             name: record.owner()?,
             algorithm: data.plain_name()?,
             inception: data.u32()?,
@@ -299,7 +347,6 @@ impl<'a> Tkey<'a> {
             other_data: data.sized()?,
             task: Task::Unsupported,
         };
-        tkey.task = Task::read(tkey.mode, tkey.other_data)?;
         data.at_end().then_some(tkey)
     }
 }
@@ -317,9 +364,9 @@ impl<'a> Task<'a> {
     /// 01 "Reading", modes.
     fn read(mode: u16, other_data: &'a [u8]) -> Option<Task<'a>> {
         Some(match mode {
-            5 => Task::Deletion,
-            4098 => Task::Renewal(OldKey::read(other_data)?),
-            4100 => Task::Adoption(OldKey::read(other_data)?),
+            DELETION => Task::Deletion,
+            RENEWAL => Task::Renewal(OldKey::read(other_data)?),
+            ADOPTION => Task::Adoption(OldKey::read(other_data)?),
             _ => Task::Unsupported,
         })
     }
@@ -342,4 +389,17 @@ impl<'a> OldKey<'a> {
         };
         other.at_end().then_some(old)
     }
+}
+
+/// CR 1: whether these octets are exactly one KEY record, its owner name not
+/// compressed.
+pub fn is_key_record(octets: &[u8]) -> bool {
+    let mut cursor = Cursor::new(octets);
+    let mut read = || {
+        cursor.plain_name()?;
+        let kind = cursor.u16()?;
+        let (_class, _ttl, _data) = (cursor.u16()?, cursor.u32()?, cursor.sized()?);
+        Some(kind == KEY && cursor.at_end())
+    };
+    read() == Some(true)
 }

@@ -284,7 +284,7 @@ module _ (t : Table) (q : Ask) (i : ℕ) (m : Message) (d : Decision) (x : Decid
       go false e = not-refused _ 7 (begins ∙ message-room at now (q .given .good) (q .given .offer) (q .room) (q .octets) sized offered m (x .end) (x .readings) query (some i) row-is e)
 
   -- the pair becomes what the decision makes of it, and the reply is the decision's
-  is-done : called t (asks q) ≡ record { table = withPair (withClock t now) i (changed d now (pairAt t i)); outcome = replied (holderAt t i) (q .given) (judge (holderAt t i) (q .given) m) (replyOf (holderAt t i) (q .given) m d) .outcome }
+  pub is-done : called t (asks q) ≡ record { table = withPair (withClock t now) i (changed d now (pairAt t i)); outcome = replied (holderAt t i) (q .given) (judge (holderAt t i) (q .given) m) (replyOf (holderAt t i) (q .given) m d) .outcome }
   unfolding replyTo
   is-done =
       begins

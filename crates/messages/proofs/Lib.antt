@@ -4,3 +4,4 @@ pub mod Loops
 pub mod Forward
 pub mod Scanning
 pub mod Parts
+pub mod Answers

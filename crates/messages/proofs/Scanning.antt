@@ -80,28 +80,28 @@ pub section-of : (m : List ℕ) (s at : ℕ) (r : Record) (next : ℕ) → recor
 section-of m s at r next e = subst (Within s) e (record-within m s at)
 
 -- what a tally keeps is what was counted
-data Keeps (m : List ℕ) : Kept → Count → Type 0 where
+pub data Keeps (m : List ℕ) : Kept → Count → Type 0 where
   keeps-none : Keeps m Never zeroOf
   keeps-one : (s place next : ℕ) (r : Record) → recordAt m s place ≡ reads r next → Keeps m (Once s place) (oneOf r)
   keeps-more : Keeps m More moreOf
 
-data Signs (m : List ℕ) : Kept → Last → Type 0 where
+pub data Signs (m : List ℕ) : Kept → Last → Type 0 where
   signs-nothing : Signs m Never nothing
   signs-plain : (r : Record) → isTsig r ≡ false → Signs m Never (last r)
   signs-tsig : (s place next : ℕ) (r : Record) → isTsig r ≡ true → recordAt m s place ≡ reads r next → Signs m (Once s place) (last r)
   signs-stray : Signs m More stray
 
-abbrev isTkey : Record → Bool
+abbrev pub isTkey : Record → Bool
 isTkey r = eqb (r .type) tkeyType
 
-abbrev isKey : Record → Bool
+abbrev pub isKey : Record → Bool
 isKey r = isAdditional r && eqb (r .type) keyType
 
 -- what is kept agrees with the records so far
-record Agrees (m : List ℕ) (s : Seen) (rs : List Record) : Type 0 where
-  sign : Signs m (s .sign) (foldFrom nextLast nothing rs)
-  tkey : Keeps m (s .tkey) (foldFrom (countIf isTkey) zeroOf rs)
-  key : Keeps m (s .key) (foldFrom (countIf isKey) zeroOf rs)
+pub record Agrees (m : List ℕ) (s : Seen) (rs : List Record) : Type 0 where
+  pub sign : Signs m (s .sign) (foldFrom nextLast nothing rs)
+  pub tkey : Keeps m (s .tkey) (foldFrom (countIf isTkey) zeroOf rs)
+  pub key : Keeps m (s .key) (foldFrom (countIf isKey) zeroOf rs)
 
 module _ (m : List ℕ) (s place next : ℕ) (r : Record) (e : recordAt m s place ≡ reads r next) where
   keep-step : {k : Kept} {n : Count} (b : Bool) → Keeps m k n → Keeps m (tallied k b s place) (cond b (counted n r) n)
@@ -131,12 +131,12 @@ module _ (m : List ℕ) (s place next : ℕ) (r : Record) (e : recordAt m s plac
 
 -- ── Sections ────────────────────────────────────────────────────────────────────────────────────────────────────────
 
-record Found (m : List ℕ) (seen : Seen) (next : ℕ) (y : Reading (List Record)) : Type 0 where
-  records : List Record
-  says : y ≡ reads records next
-  agrees : Agrees m seen records
+pub record Found (m : List ℕ) (seen : Seen) (next : ℕ) (y : Reading (List Record)) : Type 0 where
+  pub records : List Record
+  pub says : y ≡ reads records next
+  pub agrees : Agrees m seen records
 
-abbrev Match : List ℕ → Reading Seen → Reading (List Record) → Type 0
+abbrev pub Match : List ℕ → Reading Seen → Reading (List Record) → Type 0
 Match m (stops p) y = y ≡ stops p
 Match m (reads seen next) y = Found m seen next y
 
@@ -176,7 +176,7 @@ more-match m s n x y h = match-then m x y (λ seen next. scanFrom m s n seen nex
 agrees-none : (m : List ℕ) → Agrees m unseen []
 agrees-none m = record { sign = signs-nothing; tkey = keeps-none; key = keeps-none }
 
-first-match : (m : List ℕ) (at : ℕ) → Match m (scanFrom m 1 (u16At m 6) unseen at) (section m 1 (u16At m 6) [] at)
+pub first-match : (m : List ℕ) (at : ℕ) → Match m (scanFrom m 1 (u16At m 6) unseen at) (section m 1 (u16At m 6) [] at)
 unfolding section
 first-match m at = section-match m 1 (u16At m 6) unseen [] at (agrees-none m)
 
@@ -204,7 +204,7 @@ tkey-is m keeps-none = refl
 tkey-is m (keeps-one s place next r e) = rw (e, section-of m s place r next e) refl
 tkey-is m keeps-more = refl
 
-key-is : (m : List ℕ) {k : Kept} {n : Count} → Keeps m k n → onlyBy n ≡ keyAt m k
+pub key-is : (m : List ℕ) {k : Kept} {n : Count} → Keeps m k n → onlyBy n ≡ keyAt m k
 key-is m keeps-none = refl
 key-is m (keeps-one s place next r e) = rw e refl
 key-is m keeps-more = refl
@@ -234,7 +234,7 @@ unfolding readMessage
 headless m h = rw (lt-ltb (length m) 12 h) refl
 
 module _ (m : List ℕ) (head : 12 ≤ length m) where
-  headed : readMessage m ≡ readSections m
+  pub headed : readMessage m ≡ readSections m
   unfolding readMessage
   headed = rw (le-ltb (length m) 12 head) refl
 

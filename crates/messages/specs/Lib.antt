@@ -1,3 +1,4 @@
 pub mod Record
 pub mod Question
 pub mod Scan
+pub mod Answers

@@ -11,6 +11,7 @@ ghost use Rattle.model.specs.Messages.{responseOf, opcodeOf, desiredOf};
 ghost use Rattle.messages.specs.Record.{Within, cut, RecordRead};
 ghost use Rattle.messages.specs.Question.{QuestionRead};
 ghost use Rattle.messages.specs.Scan.{askedMore, tallied, signedOn, noted, askFrom, scanFrom, scanOn, scanRecords, shownWalk, shownAsking, asksBy, Scanned};
+ghost use Rattle.messages.specs.Answers.{AnswersRead};
 
 // ── The header (RFC 1035, 4.1.1) ────────────────────────────────────────────────────────────────────────────────────
 
@@ -360,5 +361,21 @@ pub fn scan(m: &[u8]) -> Outline
                 Outline::Whole { end, request, seen }
             }
         },
+    }
+}
+
+// What a pass over the answer section keeps of its TKEY records; `end` is where the questions end.
+pub fn answer_tkey(m: &[u8], end: usize) -> Kept
+    requires { ⌜ 12 ≤ length (now m) ⌝ }
+    ensures { λ r. ⌜ AnswersRead (now (m .entry)) end r ⌝ }
+{
+    let none = Seen {
+        sign: Kept::Never,
+        tkey: Kept::Never,
+        key: Kept::Never,
+    };
+    match records(m, 1, octets::u16_at(m, 6), none, end) {
+        Walk::Bad(_) => Kept::Never,
+        Walk::At { seen, next: _ } => seen.tkey,
     }
 }

@@ -14,3 +14,6 @@ pub mod Text
 pub mod Listing
 pub mod Script
 pub mod Image
+pub mod Resolver
+pub mod Exchange
+pub mod Halves

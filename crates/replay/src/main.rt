@@ -1,16 +1,18 @@
-// Replays a script of calls: each line of standard input is done to the table and its result printed (docs/SCRIPT.md). The lines mean what the crate
-// lines proves; here they are taken from the input and their text is written, in constant memory.
+// Replays a script of calls: each line of standard input is done to the table, or to the resolver, and its result printed (docs/SCRIPT.md). The lines mean what
+// the crates lines and resolver_lines prove; here they are taken from the input and their text is written, in constant memory.
 use libc::STDIN_FILENO;
 use libc::STDOUT_FILENO;
+use model::Resolver;
 use model::Table;
 ghost use mathlib.Core.Path.{_≡_};
 ghost use Prim.Native.Nat.{_≤_, _<_};
 ghost use lib.ListN.{length};
 ghost use Rattle.replay.specs.Lent.{Lent};
 
-// The run so far: the table, the number of the line that is being read, and whether all that was printed could be written.
+// The run so far: the table and the resolver, the number of the line that is being read, and whether all that was printed could be written.
 struct Run {
     table: Table,
+    resolver: Resolver,
     number: u64,
     ok: bool,
 }
@@ -25,8 +27,8 @@ fn next_number(n: u64) -> u64 {
     if n < 0xffff_ffff_ffff_ffff { n + 1 } else { n }
 }
 
-// Does and prints a line.
-fn end_line<'a>(
+// Does and prints a line that is the table's.
+fn end_table_line<'a>(
     r: Run,
     line: &[u8],
     octets: &'a mut [u8],
@@ -41,11 +43,55 @@ fn end_line<'a>(
     let n = l.length;
     let ok = io::write_all(STDOUT_FILENO, &text[..n]);
     let u = l.table;
+    let s = r.resolver;
     Run {
         table: u,
+        resolver: s,
         number: next_number(r.number),
         ok,
     }
+}
+
+// Does and prints a line that is the resolver's.
+fn end_resolver_line<'a>(
+    r: Run,
+    line: &[u8],
+    octets: &'a mut [u8],
+    key: &'a mut [u8],
+    out: &mut [u8],
+    text: &mut [u8],
+) -> Run
+    requires { ⌜ Lent (length (now octets)) (length (now key)) (length (now out)) (length (now text)) ⌝ }
+{
+    let s = r.resolver;
+    let l = resolver_lines::resolver_line(s, r.number, line, octets, key, out, text);
+    let n = l.length;
+    let ok = io::write_all(STDOUT_FILENO, &text[..n]);
+    let t = r.table;
+    let u = l.state;
+    Run {
+        table: t,
+        resolver: u,
+        number: next_number(r.number),
+        ok,
+    }
+}
+
+// Does and prints a line.
+fn end_line<'a>(
+    r: Run,
+    line: &[u8],
+    octets: &'a mut [u8],
+    offer: &'a mut [u8],
+    reply: &mut [u8],
+    text: &mut [u8],
+) -> Run
+    requires { ⌜ Lent (length (now octets)) (length (now offer)) (length (now reply)) (length (now text)) ⌝ }
+{
+    if resolver_script::is_resolvers(line) {
+        return end_resolver_line(r, line, octets, offer, reply, text);
+    }
+    end_table_line(r, line, octets, offer, reply, text)
 }
 
 // Takes what was read, octet by octet, and does each line that ends in it. Of a line, 200,001 octets are kept: so many are too many.
@@ -97,12 +143,14 @@ fn finish<'a>(
     ensures { λ r. ⌜ r .used ≤ 200001 ⌝ }
 {
     let t = r.table;
+    let s = r.resolver;
     let number = r.number;
     if 0 < used {
         end_line(r, &line[..used], octets, offer, reply, text);
     }
     let ended = Run {
         table: t,
+        resolver: s,
         number,
         ok: false,
     };
@@ -172,8 +220,10 @@ fn main() {
     let mut reply = [0u8; 65535];
     let mut text = [0u8; 140000];
     let t = tables::empty_table(0);
+    let s = resolver_script::start();
     let run = Run {
         table: t,
+        resolver: s,
         number: 1,
         ok: true,
     };

@@ -128,7 +128,7 @@ fn tkey_data(buf: &mut [u8], at: usize, m: &[u8], t: Fields, key: &[u8]) -> usiz
 }
 
 // A record up to its data, of this many octets.
-fn record_front(
+pub fn record_front(
     buf: &mut [u8],
     at: usize,
     owner: &[u8],

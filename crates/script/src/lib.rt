@@ -30,7 +30,7 @@ pub struct Ran {
 }
 
 // What a word says as a verdict.
-enum Verdict {
+pub enum Verdict {
     Is(bool),
     None,
 }
@@ -188,7 +188,7 @@ fn run_look(t: Table, line: &[u8], octets: &mut [u8]) -> Ran
     told(server::look(t, &octets[..n]))
 }
 
-fn verdict_at(line: &[u8], i: usize) -> Verdict
+pub fn verdict_at(line: &[u8], i: usize) -> Verdict
     ensures { λ r. ⌜ verdictAt (now (line .entry)) i ≡ verdictShown r ⌝ }
 {
     let w = words::word(line, i);
@@ -201,7 +201,7 @@ fn verdict_at(line: &[u8], i: usize) -> Verdict
     Verdict::None
 }
 
-fn room_of(n: u64) -> usize
+pub fn room_of(n: u64) -> usize
     ensures { λ r. ⌜ (r ≡ roomOf n) × (r ≤ 65535) ⌝ }
 {
     if n < 65535 { n as usize } else { 65535 }
@@ -269,7 +269,7 @@ fn run_message<'a>(
 // ── A line ──────────────────────────────────────────────────────────────────────────────────────────────────────────
 
 // Whether a line of n words has this first word, and as many words as its call takes.
-fn is_call(line: &[u8], n: usize, word: &[u8]) -> bool
+pub fn is_call(line: &[u8], n: usize, word: &[u8]) -> bool
     ensures { λ r. ⌜ r ≡ asks (now (line .entry)) n (now (word .entry)) ⌝ }
 {
     if words::word_count(line) != n {

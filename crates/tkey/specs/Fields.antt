@@ -5,10 +5,11 @@ use mathlib.Core.Option.{Option, none, some}
 use mathlib.Core.List.{List}
 use lib.ListN.{length, take}
 use Rattle.model.specs.declared.Span.{Span}
-use Rattle.model.specs.Octets.{u16At, part}
+use Rattle.model.specs.Octets.{u16At, u32At, part}
 use Rattle.model.specs.Names.{readPlain}
 use Rattle.model.specs.Messages.{Record, recordAt}
 use Rattle.model.specs.Tkey.{Tkey, Old as OldKey, oldNamed, oldOf, tkeyWith, tkeyOf}
+use Rattle.model.specs.Resolver.{TkeyAnswer, answerOf}
 use Rattle.messages.specs.declared.Kept.{Kept}
 use Rattle.messages.specs.Record.{Within, cut}
 use Rattle.messages.specs.Scan.{tkeyBy, tkeyAt}
@@ -36,8 +37,23 @@ LayoutFits d NoLayout = Unit {0}
 LayoutFits d (Fields next count size) =
     (next ≤ 255) × (count ≡ u16At d (next + 12)) × (count < 65536) × (size < 65536) × (next + 14 + count + 2 + size ≡ length d)
 
+-- The TKEY of a reply (02, CR 1): its other data is free, so where its fields lie is all there is to it.
+abbrev pub answerLaidOut : Record → List ℕ → Layout → Option TkeyAnswer
+answerLaidOut r d NoLayout = none
+answerLaidOut r d (Fields next count size) =
+    some
+    record {
+      name = r .owner;
+      algorithm = part d 0 next;
+      inception = u32At d next;
+      expiration = u32At d (next + 4);
+      mode = u16At d (next + 8);
+      error = u16At d (next + 10);
+    }
+
 pub record LayoutRead (d : List ℕ) (l : Layout) : Type 0 where
   pub says : (r : Record) → r .content ≡ d → tkeyOf r ≡ laidOut r d l
+  pub answers : (r : Record) → r .content ≡ d → answerOf r ≡ answerLaidOut r d l
   pub fits : LayoutFits d l
 
 -- ── The old key's names ─────────────────────────────────────────────────────────────────────────────────────────────

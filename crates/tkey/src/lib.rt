@@ -98,7 +98,7 @@ pub enum KeyFound {
 }
 
 // Where the fields of the TKEY data d lie.
-fn layout_of(d: &[u8]) -> Layout
+pub fn layout_of(d: &[u8]) -> Layout
     ensures { λ r. ⌜ LayoutRead (now (d .entry)) r ⌝ }
 {
     let mut out = [0u8; 255];

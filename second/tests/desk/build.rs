@@ -75,6 +75,7 @@ pub struct Tsig {
     pub time: u64,
     pub fudge: u16,
     pub mac: usize,
+    pub error: u16,
     pub other: Vec<u8>,
 }
 
@@ -88,6 +89,7 @@ impl Tsig {
             time,
             fudge: 300,
             mac: 32,
+            error: 0,
             other: Vec::new(),
         }
     }
@@ -97,7 +99,8 @@ impl Tsig {
         data.extend(&self.time.to_be_bytes()[2..]);
         data.extend(self.fudge.to_be_bytes());
         data.extend(sized(&vec![0x5a; self.mac]));
-        data.extend([0x12, 0x34, 0, 0]);
+        data.extend([0x12, 0x34]);
+        data.extend(self.error.to_be_bytes());
         data.extend(sized(&self.other));
         data
     }

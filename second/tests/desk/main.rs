@@ -7,5 +7,6 @@ mod judging;
 mod reading;
 mod refusals;
 mod replies;
+mod resolver;
 mod script;
 mod tables;

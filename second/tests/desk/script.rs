@@ -118,6 +118,136 @@ fn bad_lines() {
     assert_eq!(*runner.table(), second::Table::default());
 }
 
+const HOLD: &str = "hold 01310161076578616d706c6500 256 1000 1600\n";
+
+#[test]
+fn the_resolver_to_begin_with() {
+    let nothing = "resolver\t-\t-\tadopted\n";
+    let script = "keys\nadoption 1 65535\ndeletion 1 0\nreply bad 000000000000000000000000\nkeys\n";
+    let expected = format!("{nothing}6 0 - -\n6 0 - -\n1 -\n{nothing}");
+    assert_eq!(output(script.as_bytes()), expected);
+}
+
+#[test]
+fn the_resolver_lists() {
+    let script =
+        format!("{HOLD}note 65535\nkeys\ndeletion 007 81\nkeys\nhold - 512 0 4294967295\nkeys\n");
+    let expected = "0\n0\n\
+        resolver\tordinary\t65535\tadopted\n\
+        key\tadopted\t01310161076578616d706c6500\thmac-sha256\t1000\t1600\n\
+        0 81 adopted 000700000001000000000001\
+        01310161076578616d706c650000f900ff01310161076578616d706c650000f900ff00000000001d\
+        0b686d61632d7368613235360000000000000000000005000000000000\n\
+        resolver\tdeletion\t7\tadopted\n\
+        key\tadopted\t01310161076578616d706c6500\thmac-sha256\t1000\t1600\n\
+        0\n\
+        resolver\t-\t-\tadopted\n\
+        key\tadopted\t-\thmac-sha512\t0\t4294967295\n";
+    assert_eq!(output(script.as_bytes()), expected);
+}
+
+#[test]
+fn a_renewal_and_its_adoption_in_lines() {
+    let tkey = Tkey::new("2.a.example.", RENEWAL, Vec::new());
+    let mut draft = Draft::empty();
+    draft.flags = 0x8000;
+    draft.answer.push(tkey.octets());
+    let granted = print_hex(&draft.signed("1.a.example.", 1000));
+    let revoked = Tsig {
+        error: 3841,
+        ..Tsig::by("1.a.example.", 1000)
+    };
+    let revoked = print_hex(&draft.with(&revoked));
+    let record = print_hex(&key_record());
+    let script = format!(
+        "{HOLD}note 4660\nreply good {revoked}\nrenewal 4660 - 384 1 2 {record} 106\n\
+         renewal 4660 - 384 1 2 {record} 107\nreply bad {granted}\nreply good {granted}\n\
+         reply good {granted}\nadoption 1 512\nadoption 2 512\nkeys\n"
+    );
+    let output = output(script.as_bytes());
+    let lines: Vec<&str> = output.lines().collect();
+    assert_eq!(lines[..4], ["0", "0", "0 due", "5 0 - -"]);
+    assert!(
+        lines[4].starts_with("0 107 adopted 1234000000010000000000020000f900ff0000f900ff00000000")
+    );
+    assert_eq!(lines[5..8], ["3 -", "0 -", "1 -"]);
+    assert!(lines[8].starts_with("0 107 adopted 0001"));
+    assert!(lines[9].starts_with("0 107 offered 0002"));
+    let listing = [
+        "resolver\tadoption\t2\tadopted",
+        "key\tadopted\t01310161076578616d706c6500\thmac-sha256\t1000\t1600",
+        "key\toffered\t01320161076578616d706c6500\thmac-sha256\t1000\t2000",
+    ];
+    assert_eq!(lines[10..], listing);
+}
+
+#[test]
+fn bad_lines_of_the_resolver() {
+    let long = format!("hold {} 256 0 0", "00".repeat(256));
+    let bad = [
+        "keys ",
+        "keys 1",
+        "Keys",
+        "note",
+        "note 65536",
+        "note -",
+        "note 1 1",
+        "hold 00 257 0 0",
+        "hold 00 0 0 0",
+        "hold 00 256 4294967296 0",
+        "hold 00 256 0 4294967296",
+        "hold 0 256 0 0",
+        "hold 00 256 0",
+        "hold 00 256 0 0 0",
+        long.as_str(),
+        "renewal 65536 - 256 0 0 - 0",
+        "renewal 0 0 256 0 0 - 0",
+        "renewal 0 - 13 0 0 - 0",
+        "renewal 0 - 256 4294967296 0 - 0",
+        "renewal 0 - 256 0 4294967296 - 0",
+        "renewal 0 - 256 0 0 0 0",
+        "renewal 0 - 256 0 0 - 18446744073709551616",
+        "renewal 0 - 256 0 0 -",
+        "renewal 0 - 256 0 0 - 0 0",
+        "adoption 65536 0",
+        "adoption 0",
+        "adoption 0 0 0",
+        "adoption 0 -",
+        "deletion 65536 0",
+        "deletion 0",
+        "deletion 0 0 0",
+        "reply",
+        "reply good",
+        "reply good 0",
+        "reply Good -",
+        "reply good - -",
+    ];
+    let mut runner = Runner::new();
+    let mut out = Vec::new();
+    runner.line(HOLD.trim_end().as_bytes(), &mut out);
+    runner.line(b"note 9", &mut out);
+    let before = runner.resolver().clone();
+    for (index, line) in bad.into_iter().enumerate() {
+        out.clear();
+        runner.line(line.as_bytes(), &mut out);
+        let expected = format!("bad line {}\n", index + 3);
+        assert_eq!(String::from_utf8(out.clone()).unwrap(), expected);
+    }
+    assert_eq!(*runner.resolver(), before);
+    let long = format!("hold {} 256 0 0", "00".repeat(255));
+    out.clear();
+    runner.line(long.as_bytes(), &mut out);
+    assert_eq!(out, b"0\n");
+}
+
+#[test]
+fn each_half_leaves_the_other_alone() {
+    let script = format!("{ENROL}{HOLD}new 7\nkeys\nlist\n");
+    let expected = "0 0 0 0 1 1 -\n0\n0 0 0 0 0 0 -\nresolver\t-\t-\tadopted\n\
+        key\tadopted\t01310161076578616d706c6500\thmac-sha256\t1000\t1600\nclock\t7\n";
+    assert_eq!(output(script.as_bytes()), expected);
+}
+
 #[test]
 fn good_lines_of_odd_looks() {
     let script = "new 000000000000000000000000000000007\nrevoke 7 18446744073709551615\n\

@@ -9,6 +9,9 @@ use Rattle.replay.proofs.main.Tie as tie
 empty-table-requires : tie.Need-empty-table-requires
 empty-table-requires c κs = search needs
 
+start-requires : tie.Need-start-requires
+start-requires c κs = search needs
+
 slice-aggregate-run-all : tie.Need-slice-aggregate-run-all
 slice-aggregate-run-all c = search needs
 
@@ -47,6 +50,7 @@ main-spec =
     tie.close
     (tie.spec
     empty-table-requires
+    start-requires
     slice-aggregate-run-all
     slice-aggregate-run-all-2
     slice-aggregate-run-all-3

@@ -41,11 +41,11 @@ pub struct Table {
     pub pairs: Vec<Pair>,
 }
 
-fn read_number(text: &str) -> u64 {
+pub fn read_number(text: &str) -> u64 {
     text.parse().expect("a number")
 }
 
-fn read_hex(text: &str) -> Vec<u8> {
+pub fn read_hex(text: &str) -> Vec<u8> {
     if text == "-" {
         return Vec::new();
     }

@@ -12,6 +12,7 @@
 mod desk;
 mod maker;
 mod reached;
+mod resolver;
 mod rng;
 mod scenarios;
 mod wire;

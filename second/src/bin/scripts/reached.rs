@@ -22,17 +22,25 @@ const SPENT: &str = "takes 2^32 keys of one pair";
 const WAITING: &str = "a waiting key comes from a granted renewal only, which ends the signing \
 key's fresh time then; so step 7 answers every later deletion with PartialRevoke";
 
-const CALLS: [(&str, &[u64]); 6] = [
+const CALLS: [(&str, &[u64]); 12] = [
     ("new", &[0, 2]),
     ("enrol", &[0, 2, 3, 12, 13, 14, 15]),
     ("issue", &[0, 2, 3, 9, 13]),
     ("revoke", &[0, 2, 3, 9, 10]),
     ("look", &[0, 4, 6, 7]),
     ("message", &[0, 2, 3, 4, 5, 6, 7, 8]),
+    ("hold", &[0]),
+    ("note", &[0]),
+    ("renewal", &[0, 5, 6]),
+    ("adoption", &[0, 5, 6]),
+    ("deletion", &[0, 5, 6]),
+    ("reply", &[0, 1, 2, 3, 4]),
 ];
 
-const OUTCOMES: [&str; 31] = [
+const OUTCOMES: [&str; 33] = [
     "list",
+    "keys",
+    "renewal due",
     "bad line",
     "rcode 0",
     "rcode 1",
@@ -65,7 +73,7 @@ const OUTCOMES: [&str; 31] = [
     "look 0 0",
 ];
 
-const NEVER: [(&str, &str); 13] = [
+const NEVER: [(&str, &str); 15] = [
     ("enrol 1", TABLE),
     ("issue 1", TABLE),
     ("revoke 1", TABLE),
@@ -87,6 +95,15 @@ const NEVER: [(&str, &str); 13] = [
     (
         "adoption of an expired waiting key",
         "a waiting key expires no sooner than the adopted key that must sign",
+    ),
+    (
+        "adoption 6 for an offered name that is no wire name",
+        "an offered name comes from a reply, written out",
+    ),
+    (
+        "answer to a resolver without the key it needs",
+        "a request is written with its keys there, and they change with its reply or with hold, \
+which leaves no request open",
     ),
 ];
 

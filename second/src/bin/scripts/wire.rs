@@ -120,6 +120,19 @@ pub fn record(owner: &[u8], kind: u16, class: u16, data: &[u8]) -> Record {
     }
 }
 
+impl Record {
+    pub fn octets(&self) -> Vec<u8> {
+        joined(&[
+            &self.owner,
+            &self.kind.to_be_bytes(),
+            &self.class.to_be_bytes(),
+            &self.ttl.to_be_bytes(),
+            &length_field(&self.data, self.length_off),
+            &self.data,
+        ])
+    }
+}
+
 /// A length field that may be bent by `off`.
 fn length_field(data: &[u8], off: i32) -> [u8; 2] {
     ((data.len() as i32 + off) as u16).to_be_bytes()
@@ -237,12 +250,7 @@ impl Builder {
     /// Sections: 1 answer, 2 authority, 3 additional.
     pub fn record(&mut self, section: usize, r: &Record) {
         self.counts[section] += 1;
-        self.raw(&r.owner);
-        self.raw(&r.kind.to_be_bytes());
-        self.raw(&r.class.to_be_bytes());
-        self.raw(&r.ttl.to_be_bytes());
-        self.raw(&length_field(&r.data, r.length_off));
-        self.raw(&r.data);
+        self.raw(&r.octets());
     }
 
     pub fn bend_count(&mut self, section: usize, by: i32) {

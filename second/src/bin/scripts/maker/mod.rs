@@ -5,12 +5,15 @@ mod calls;
 mod eras;
 mod messages;
 mod notes;
+mod resolver;
 mod states;
 
 pub use messages::{tkey, tsig};
+pub use resolver::{Order, Reply, Wish};
 
 use crate::desk::{Outcome, Pair, Table};
 use crate::reached::Reached;
+use crate::resolver::Resolver;
 use crate::rng::Rng;
 use crate::wire;
 use second::script::Runner;
@@ -64,29 +67,39 @@ pub fn lower(octets: &[u8]) -> Vec<u8> {
 pub struct Maker<'a> {
     pub rng: Rng,
     pub table: Table,
+    pub resolver: Resolver,
     pub reached: Reached,
     pub lines: u64,
     limit: u64,
     runner: Runner,
     script: &'a mut dyn Write,
     failed: Option<io::Error>,
+    /// What `list` and `keys` last showed.
+    listing: String,
+    shown: String,
     /// The count of lines at which the next table is begun.
     era_ends: u64,
 }
 
 impl<'a> Maker<'a> {
     pub fn new(seed: u64, limit: u64, reached: Reached, script: &'a mut dyn Write) -> Maker<'a> {
-        Maker {
+        let mut maker = Maker {
             rng: Rng::new(seed),
             table: Table::default(),
+            resolver: Resolver::default(),
             reached,
             lines: 0,
             limit,
             runner: Runner::new(),
             script,
             failed: None,
+            listing: String::new(),
+            shown: String::new(),
             era_ends: 0,
-        }
+        };
+        maker.listing = maker.printed(b"list");
+        maker.shown = maker.printed(b"keys");
+        maker
     }
 
     pub fn is_done(&self) -> bool {
@@ -129,19 +142,25 @@ impl<'a> Maker<'a> {
         String::from_utf8(text).expect("results are ASCII")
     }
 
-    /// Writes one script line, runs it and counts what it reached.
-    pub fn line(&mut self, line: &[u8]) -> Outcome {
+    /// Writes one script line, if it is not past the limit.
+    fn put(&mut self, line: &[u8]) {
         if self.lines < self.limit {
             if let Err(error) = self.write_line(line) {
                 self.failed = Some(error);
             }
         }
         self.lines += 1;
+    }
+
+    /// Writes one script line, runs it and counts what it reached.
+    pub fn line(&mut self, line: &[u8]) -> Outcome {
+        self.put(line);
         let seen = self.run(line);
-        let listing = self.printed(b"list");
-        let before = std::mem::replace(&mut self.table, Table::read(&listing));
+        self.listing = self.printed(b"list");
+        let before = std::mem::replace(&mut self.table, Table::read(&self.listing));
         if self.counts() {
             self.note(line, &before, &seen);
+            self.check_resolver_unchanged();
         }
         seen
     }

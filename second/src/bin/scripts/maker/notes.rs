@@ -2,6 +2,7 @@
 
 use super::Maker;
 use crate::desk::{Outcome, Table};
+use crate::resolver::{Resolver, Said};
 use crate::wire;
 
 impl Maker<'_> {
@@ -29,6 +30,37 @@ impl Maker<'_> {
         }
         if seen.number != 0 {
             self.check_refused(before, seen);
+        }
+    }
+
+    /// The resolver's lines.
+    pub(super) fn note_told(&mut self, line: &str, before: &Resolver, said: &Said) {
+        if self.printed(b"list") != self.listing {
+            self.surprise("a resolver's line changed the table");
+        }
+        match said {
+            Said::Bad => self.hit("bad line"),
+            Said::Listed => self.hit("keys"),
+            _ => {
+                let call = line.split(' ').next().unwrap_or_default();
+                self.hit(&format!("{call} {}", said.number()));
+                if *said == Said::Read(0, true) {
+                    self.hit("renewal due");
+                }
+            }
+        }
+        let idle = matches!(said, Said::Bad | Said::Listed) || said.number() != 0;
+        if idle && self.resolver != *before {
+            self.surprise("the resolver changed");
+        }
+        if said.number() != 0 && !said.is_bare() {
+            self.surprise("a refusal returned more than its number");
+        }
+    }
+
+    pub(super) fn check_resolver_unchanged(&mut self) {
+        if self.printed(b"keys") != self.shown {
+            self.surprise("a line of the table's changed the resolver");
         }
     }
 

@@ -240,7 +240,7 @@ fn first_length(maker: &mut Maker, s: &Signer, item: &str) -> Vec<u8> {
     b.finish()
 }
 
-const MUTATIONS: [&str; 5] = ["flip", "insert", "delete", "duplicate", "several"];
+pub const MUTATIONS: [&str; 5] = ["flip", "insert", "delete", "duplicate", "several"];
 
 const KINDS: [&str; 7] = [
     "unsigned",
@@ -280,7 +280,7 @@ fn mutation(maker: &mut Maker, item: &str) -> bool {
     !maker.send(&call, &octets).bad
 }
 
-fn mutate(maker: &mut Maker, octets: &mut Vec<u8>, change: &str) {
+pub fn mutate(maker: &mut Maker, octets: &mut Vec<u8>, change: &str) {
     let at = maker.rng.below(octets.len() as u64) as usize;
     match change {
         "flip" => octets[at] ^= 1 << maker.rng.below(8),

@@ -9,7 +9,7 @@ use crate::wire::{self, label, name, name_of, pointer, record, Ask};
 pub fn groups() -> Vec<Group> {
     vec![Group {
         name: "large",
-        weight: 2,
+        weight: 3,
         items: || list(&LARGE),
         run: large,
     }]

@@ -2,6 +2,7 @@
 
 use super::{list, Group};
 use crate::maker::Maker;
+use crate::resolver::Said;
 
 pub fn groups() -> Vec<Group> {
     vec![
@@ -16,6 +17,18 @@ pub fn groups() -> Vec<Group> {
             weight: 20,
             items: || list(&ODD),
             run: odd,
+        },
+        Group {
+            name: "resolver's bad line",
+            weight: 8,
+            items: || list(&RESOLVERS_BAD),
+            run: resolvers_bad,
+        },
+        Group {
+            name: "resolver's odd line",
+            weight: 2,
+            items: || list(&RESOLVERS_ODD),
+            run: resolvers_odd,
         },
     ]
 }
@@ -240,4 +253,194 @@ fn odd(maker: &mut Maker, item: &str) -> bool {
         _ => format!("enrol {at} - 600 400 256"),
     };
     maker.line(line.as_bytes()).is_call()
+}
+
+const RESOLVERS_BAD: [&str; 57] = [
+    "leading space",
+    "trailing space",
+    "two spaces",
+    "tab for space",
+    "carriage return",
+    "word in capitals",
+    "missing word in hold",
+    "missing word in renewal",
+    "missing word in adoption",
+    "missing word in deletion",
+    "missing word in note",
+    "missing word in reply",
+    "extra word in hold",
+    "extra word in renewal",
+    "extra word in adoption",
+    "extra word in deletion",
+    "extra word in note",
+    "extra word in reply",
+    "extra word in keys",
+    "keys and a space",
+    "hold of 256 octets",
+    "hold of odd octets",
+    "hold of a bad digit",
+    "hold, algorithm 257",
+    "hold, algorithm 0",
+    "hold, algorithm by name",
+    "hold, inception 2^32",
+    "hold, inception 2^64",
+    "hold, expiration 2^32",
+    "hold, expiration with minus",
+    "renewal, ID 65536",
+    "renewal, ID 2^64",
+    "renewal, name odd",
+    "renewal, name empty",
+    "renewal, algorithm 257",
+    "renewal, algorithm 255",
+    "renewal, algorithm 2^32 + 256",
+    "renewal, inception 2^32",
+    "renewal, expiration 2^32",
+    "renewal, KEY odd",
+    "renewal, KEY empty",
+    "renewal, room 2^64",
+    "renewal, room a dash",
+    "adoption, ID 65536",
+    "adoption, ID a dash",
+    "adoption, ID with plus",
+    "adoption, room 2^64",
+    "deletion, ID 65536",
+    "deletion, ID in hexadecimal",
+    "deletion, room empty",
+    "note, ID 65536",
+    "note, ID 2^64",
+    "note, ID empty",
+    "reply, verdict in capitals",
+    "reply, verdict a number",
+    "reply odd",
+    "reply empty",
+];
+
+/// The words of a resolver's line that reads.
+fn resolvers_good(call: &str) -> Vec<&str> {
+    match call {
+        "hold" => vec!["hold", "016b00", "256", "1", "2"],
+        "renewal" => vec![
+            "renewal",
+            "7",
+            "-",
+            "384",
+            "3",
+            "4",
+            "0000190001000000000000",
+            "512",
+        ],
+        "adoption" => vec!["adoption", "8", "512"],
+        "deletion" => vec!["deletion", "9", "512"],
+        "note" => vec!["note", "10"],
+        "reply" => vec!["reply", "good", "000a80000000000000000000"],
+        _ => vec!["keys"],
+    }
+}
+
+const RESOLVERS: [&str; 7] = [
+    "hold", "renewal", "adoption", "deletion", "note", "reply", "keys",
+];
+
+/// Whatever the resolver holds, such a line does nothing to it.
+fn resolvers_bad(maker: &mut Maker, item: &str) -> bool {
+    let line = resolvers_bad_line(maker, item);
+    maker.step(&line) == Said::Bad
+}
+
+fn resolvers_bad_line(maker: &mut Maker, item: &str) -> String {
+    if let Some(call) = item.strip_prefix("missing word in ") {
+        let words = resolvers_good(call);
+        return words[..words.len() - 1].join(" ");
+    }
+    if let Some(call) = item.strip_prefix("extra word in ") {
+        return resolvers_good(call).join(" ") + " 0";
+    }
+    let call = *maker.rng.pick(&RESOLVERS);
+    let line = resolvers_good(call).join(" ");
+    match item {
+        "leading space" => format!(" {line}"),
+        "trailing space" => format!("{line} "),
+        "two spaces" => "adoption  1 2".to_string(),
+        "tab for space" => "note\t1".to_string(),
+        "carriage return" => format!("{line}\r"),
+        "word in capitals" => line.to_uppercase(),
+        "keys and a space" => "keys ".to_string(),
+        _ => resolvers_bad_word(item),
+    }
+}
+
+fn resolvers_bad_word(item: &str) -> String {
+    let long = "00".repeat(256);
+    let call = item.split([',', ' ']).next().unwrap_or_default();
+    let mut words = resolvers_good(call);
+    let (place, word) = match item {
+        "hold of 256 octets" => (1, long.as_str()),
+        "hold of odd octets" => (1, "016b0"),
+        "hold of a bad digit" => (1, "0g"),
+        "hold, algorithm 257" => (2, "257"),
+        "hold, algorithm 0" => (2, "0"),
+        "hold, algorithm by name" => (2, "hmac-sha256"),
+        "hold, inception 2^32" => (3, "4294967296"),
+        "hold, inception 2^64" => (3, "18446744073709551616"),
+        "hold, expiration 2^32" => (4, "4294967296"),
+        "hold, expiration with minus" => (4, "-1"),
+        "renewal, ID 65536" | "adoption, ID 65536" => (1, "65536"),
+        "deletion, ID 65536" | "note, ID 65536" => (1, "65536"),
+        "renewal, ID 2^64" | "note, ID 2^64" => (1, "18446744073709551616"),
+        "renewal, name odd" => (2, "016"),
+        "renewal, name empty" => (2, ""),
+        "renewal, algorithm 257" => (3, "257"),
+        "renewal, algorithm 255" => (3, "255"),
+        "renewal, algorithm 2^32 + 256" => (3, "4294967552"),
+        "renewal, inception 2^32" => (4, "4294967296"),
+        "renewal, expiration 2^32" => (5, "4294967296"),
+        "renewal, KEY odd" => (6, "00001"),
+        "renewal, KEY empty" => (6, ""),
+        "renewal, room 2^64" => (7, "18446744073709551616"),
+        "renewal, room a dash" => (7, "-"),
+        "adoption, ID a dash" => (1, "-"),
+        "adoption, ID with plus" => (1, "+1"),
+        "adoption, room 2^64" => (2, "18446744073709551616"),
+        "deletion, ID in hexadecimal" => (1, "0x9"),
+        "deletion, room empty" => (2, ""),
+        "note, ID empty" => (1, ""),
+        "reply, verdict in capitals" => (1, "Good"),
+        "reply, verdict a number" => (1, "1"),
+        "reply odd" => (2, "000a800000000000000000000"),
+        _ => (2, ""),
+    };
+    words[place] = word;
+    words.join(" ")
+}
+
+const RESOLVERS_ODD: [&str; 8] = [
+    "leading zeros",
+    "capitals in hex",
+    "hold of 255 octets",
+    "hold of no octets",
+    "hold of times 2^32 - 1",
+    "note of ID 65535",
+    "reply of no octets",
+    "hold and list",
+];
+
+/// Lines that read, whatever the call says then.
+fn resolvers_odd(maker: &mut Maker, item: &str) -> bool {
+    let long = format!("hold {} 512 0 0", "ff".repeat(255));
+    match item {
+        "leading zeros" => {
+            maker.step("hold 016B00 000256 0000000000000000000000007 08") == Said::Number(0)
+                && maker.step("note 0000000000000000000000065535") == Said::Number(0)
+                && maker.step("deletion 0007 00000000000000000000000011") == Said::unwritten(5)
+        }
+        "capitals in hex" => maker.step("hold 016BaB 256 1 2") == Said::Number(0),
+        "hold of 255 octets" => maker.step(&long) == Said::Number(0),
+        "hold of no octets" => maker.step("hold - 384 1 2") == Said::Number(0),
+        "hold of times 2^32 - 1" => {
+            maker.step("hold 00 256 4294967295 4294967295") == Said::Number(0)
+        }
+        "note of ID 65535" => maker.notes(65_535),
+        "reply of no octets" => maker.step("reply good -") == Said::Read(4, false),
+        _ => maker.step("hold 016b00 256 1 2") == Said::Number(0) && maker.line(b"list").listed,
+    }
 }

@@ -1,12 +1,15 @@
 //! The groups of scenarios. Each group has a fixed list of items; running an item brings the
 //! desk into the state it needs, makes the call, and says whether the papers' outcome came.
 
+mod answers;
 mod damage;
+mod exchange;
 mod large;
 mod lines;
 mod mixture;
 mod names;
 mod refusals;
+mod requests;
 mod rooms;
 mod tables;
 mod times;
@@ -60,6 +63,9 @@ pub fn groups() -> Vec<Group> {
     all.extend(large::groups());
     all.extend(lines::groups());
     all.extend(mixture::groups());
+    all.extend(exchange::groups());
+    all.extend(requests::groups());
+    all.extend(answers::groups());
     all
 }
 

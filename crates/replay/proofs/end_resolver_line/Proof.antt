@@ -1,19 +1,19 @@
--- `replay::end_line` meets its contract. Assumes nothing.
+-- `replay::end_resolver_line` meets its contract. Assumes nothing.
 use mathlib.Core.Path.{sym}
 use native.Mathlib.Omega.{arith}
 use lib.Seq.{length-take-le}
 use borrow.Author.Needs.{needs}
-use Rattle.replay.proofs.end_line.Statement.{statement}
-use Rattle.replay.proofs.end_line.Tie as tie
+use Rattle.replay.proofs.end_resolver_line.Statement.{statement}
+use Rattle.replay.proofs.end_resolver_line.Tie as tie
 
-replay-line-requires : tie.Need-replay-line-requires
-replay-line-requires c κs = search needs
+resolver-line-requires : tie.Need-resolver-line-requires
+resolver-line-requires c κs = search needs
 
 slice-reshare-prefix-write-all : tie.Need-slice-reshare-prefix-write-all
 slice-reshare-prefix-write-all c = search needs
 
 slice-aggregate-write-all : tie.Need-slice-aggregate-write-all
-slice-aggregate-write-all c = sym (length-take-le _ _ (omega (arith, c .before .before .before .before .before .before .before .before .before .replay-line .ensures .text .room)))
+slice-aggregate-write-all c = sym (length-take-le _ _ (omega (arith, c .before .before .before .before .before .before .before .before .before .resolver-line .ensures .text .room)))
 
 write-all-requires : tie.Need-write-all-requires
 write-all-requires c κs = search needs
@@ -36,11 +36,11 @@ same-length-4 c = search needs
 returns : tie.Need-returns
 returns c = search needs
 
-pub end-line-spec : {M : Type 1} → statement M
-end-line-spec =
+pub end-resolver-line-spec : {M : Type 1} → statement M
+end-resolver-line-spec =
     tie.close
     (tie.spec
-    replay-line-requires
+    resolver-line-requires
     slice-reshare-prefix-write-all
     slice-aggregate-write-all
     write-all-requires

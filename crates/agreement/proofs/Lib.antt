@@ -1,0 +1,17 @@
+pub mod Hearing
+pub mod Still
+pub mod Found
+pub mod Asked
+pub mod Answered
+pub mod Decided
+pub mod Served
+pub mod Writes
+pub mod Steps
+pub mod Exchanged
+pub mod Row
+pub mod Deleting
+pub mod Adopting
+pub mod Renewing
+pub mod Agreed
+pub mod Sample
+pub mod Agreement

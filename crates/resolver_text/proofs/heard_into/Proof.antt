@@ -1,0 +1,32 @@
+-- `resolver_text::heard_into` meets its contract: two fields and a newline. Assumes nothing.
+use Rattle.model.specs.Text.{lineOf, partedBy}
+use Rattle.model.specs.Halves.{heardLine}
+use Rattle.octets.proofs.Laws.{then}
+use borrow.Author.Needs.{needs}
+use Rattle.resolver_text.proofs.heard_into.Statement.{statement}
+use Rattle.resolver_text.proofs.heard_into.Tie as tie
+
+number-into-requires : tie.Need-number-into-requires
+number-into-requires c κs = search needs
+
+due-field-requires : tie.Need-due-field-requires
+due-field-requires c κs = search needs
+
+u8-into-requires : tie.Need-u8-into-requires
+u8-into-requires c κs = search needs
+
+same-length : tie.Need-same-length
+same-length c = search needs
+
+returns : tie.Need-returns
+unfolding heardLine lineOf partedBy
+returns c =
+    let w₁ = c .before .before .before .before .before .before .before .before .before .before .number-into .ensures .1 in
+    let w₂ = c .before .before .before .before .before .before .due-field .ensures .1 in
+    let w₃ = c .before .before .u8-into .ensures .1 in
+    (search needs, then w₁ (then w₂ w₃))
+
+pub heard-into-spec : {M : Type 1} → statement M
+heard-into-spec =
+    tie.close
+    (tie.spec number-into-requires due-field-requires u8-into-requires same-length returns)

@@ -1,0 +1,31 @@
+-- `resolver_text::times_end` meets its contract: two numbers and a newline. Assumes nothing.
+use Rattle.model.specs.Text.{partedBy}
+use Rattle.octets.proofs.Laws.{then}
+use borrow.Author.Needs.{needs}
+use Rattle.resolver_text.proofs.times_end.Statement.{statement}
+use Rattle.resolver_text.proofs.times_end.Tie as tie
+
+number-field-requires : tie.Need-number-field-requires
+number-field-requires c κs = search needs
+
+number-field-requires-2 : tie.Need-number-field-requires-2
+number-field-requires-2 c κs = search needs
+
+u8-into-requires : tie.Need-u8-into-requires
+u8-into-requires c κs = search needs
+
+same-length : tie.Need-same-length
+same-length c = search needs
+
+returns : tie.Need-returns
+unfolding partedBy
+returns c =
+    let w₁ = c .before .before .before .before .before .before .before .before .before .before .number-field .ensures .1 in
+    let w₂ = c .before .before .before .before .before .before .number-field2 .ensures .1 in
+    let w₃ = c .before .before .u8-into .ensures .1 in
+    (search needs, then w₁ (then w₂ w₃))
+
+pub times-end-spec : {M : Type 1} → statement M
+times-end-spec =
+    tie.close
+    (tie.spec number-field-requires number-field-requires-2 u8-into-requires same-length returns)

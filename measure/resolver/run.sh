@@ -5,5 +5,5 @@ cd "$(dirname "$0")/../.."
 work=$(mktemp -d)
 trap 'rm -rf "$work"' EXIT
 rt staticlib measure_resolver | tail -n 1
-gcc -std=gnu11 -Wall -Wextra -Werror -O2 measure/resolver/stack.c target/staticlib/libmeasure_resolver.a -o "$work/stack"
+gcc -std=gnu11 -Wall -Wextra -Werror -O2 -Wl,-z,now measure/resolver/stack.c target/staticlib/libmeasure_resolver.a -o "$work/stack"
 "$work/stack"

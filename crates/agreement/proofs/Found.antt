@@ -1,6 +1,6 @@
 -- A key's name leads to its pair's row. Assumes nothing.
-use mathlib.Core.Path.{_≡_, refl, sym, ap, _∙_}
-use mathlib.Core.Bool.{Bool, true, false, cond, _&&_, false≢true}
+use mathlib.Core.Path.{_≡_, refl, ap, _∙_}
+use mathlib.Core.Bool.{Bool, true, false, false≢true}
 use mathlib.Core.Option.{Option, some}
 use mathlib.Core.Logic.{_≢_}
 use mathlib.Core.List.{List, [], _∷_, _++_}
@@ -8,15 +8,15 @@ use Prim.Native.Nat.{ℕ, zero, suc, _+_, _^_, _≤_, _<_}
 use native.Mathlib.Decide.{decLt}
 use native.Mathlib.Omega.{arith}
 use native.Mathlib.Numerals.{add-one}
-use borrow.Author.Tests.{eqb-true, eq-eqb, leb-true, lt-leb}
-use lib.Dec.{eqb, leb}
-use lib.ListN.{length, drop, getD}
+use borrow.Author.Tests.{eqb-true, eq-eqb}
+use lib.Dec.{eqb}
+use lib.ListN.{length, drop}
 use lib.Seq.{drop-append-seam}
 use Rattle.model.specs.declared.Table.{Table}
 use Rattle.model.specs.Names.{lowerOf, sameName, decimal, serialLabel, keyName, afterLabel}
-use Rattle.model.specs.Tables.{namesOf, suffixAt, firstFrom, rowNamed, tableRules}
+use Rattle.model.specs.Tables.{namesOf, firstFrom, rowNamed, tableRules}
 use Rattle.model.proofs.Tests.{left, right, both, not-so, differs}
-use Rattle.model.proofs.NameLaws.{same-sym, decimal-short}
+use Rattle.model.proofs.NameLaws.{same-sym, low-back, decimal-short}
 use Rattle.model.proofs.Rows.{suffix, other-suffix}
 
 -- ── Names that are the same ─────────────────────────────────────────────────────────────────────────────────────────
@@ -45,16 +45,6 @@ same-drop (suc k) [] [] e = refl
 same-drop (suc k) [] (y ∷ b) e = absurd (false≢true e)
 same-drop (suc k) (x ∷ a) [] e = absurd (false≢true e)
 same-drop (suc k) (x ∷ a) (y ∷ b) e = same-drop k a b (right (eqb (lowerOf x) (lowerOf y)) (sameName a b) e)
-
--- an octet whose lower case is below A is itself that
-low-back : (x n : ℕ) → n < 65 → lowerOf x ≡ lowerOf n → x ≡ n
-unfolding lowerOf
-low-back x n h e = go (leb 65 x) (leb x 90) refl (rw (lt-leb 65 n h) at e)
-  where
-    go : (a b : Bool) → leb 65 x ≡ a → cond (a && b) (x + 32) x ≡ n → x ≡ n
-    go true true l e = absurd (omega (arith, leb-true 65 x l))
-    go true false l e = e
-    go false b l e = e
 
 -- what follows the first label of a key's name is its pair's suffix
 pub after-key : (name : List ℕ) (serial : ℕ) (s : List ℕ) → serial < 2 ^ 32 → sameName name (keyName serial s) ≡ true → sameName s (afterLabel name) ≡ true

@@ -43,7 +43,7 @@ fn fields_of(d: &[u8], start: usize, next: usize) -> AnswerFields
 fn answer_at(m: &[u8], owner: &mut [u8; 255], place: usize) -> AnswerFound
     ensures { λ r. ⌜ RecordRead (now (m .entry)) place (now (owner .exit)) r ⌝ }
 {
-    match messages::read_record(m, owner, place) {
+    match messages::expand_record(m, owner, place) {
         Found::Bad(_) => AnswerFound::Nothing,
         Found::At {
             len: name,

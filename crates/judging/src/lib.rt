@@ -22,6 +22,7 @@ ghost use Rattle.model.specs.Names.{outputOf};
 ghost use Rattle.model.specs.Tkey.{Tkey};
 ghost use Rattle.model.specs.Judging.{holder, isNamed, isKey, waitingOf, holds, signerOf, unknown, inTime, macFits, apart, isRevoked, goodInterval, canRenew, renewalOf, adoptionOf, deletionOf, decideTkey, judgeRead};
 ghost use Rattle.model.specs.Judging.{decide as decideAll};
+ghost use Rattle.names.specs.Compare.{nameAt, Readable};
 ghost use Rattle.messages.specs.Record.{Within, cut};
 ghost use Rattle.pairs.specs.Held.{keyOf};
 ghost use Rattle.tsig.specs.Signature.{tsigFrom, shown, SignerFits};
@@ -155,6 +156,19 @@ fn is_key(name: &[u8], algorithm: &[u8], suffix: &[u8], k: Key) -> bool
     }
 }
 
+// The same of the name at `place` of the message m, compared where it lies.
+fn is_key_at(m: &[u8], place: usize, algorithm: &[u8], suffix: &[u8], k: Key) -> bool
+    requires { ⌜ Readable (now m) place × (k .serial < 2 ^ 32) ⌝ }
+    ensures { λ r. ⌜ r ≡ isKey (nameAt (now (m .entry)) place) (now (algorithm .entry)) (now (suffix .entry)) k ⌝ }
+{
+    let own = k.algorithm;
+    if names::is_key_name_at(m, place, k.serial, suffix) {
+        names::is_algorithm(algorithm, own)
+    } else {
+        false
+    }
+}
+
 // OldName and OldAlgorithm of a TKEY are those of a pair's key.
 fn is_old_key(m: &[u8], t: TkeyFields, suffix: &[u8], k: Key) -> bool
     requires { ⌜ Fits (now m) t × (k .serial < 2 ^ 32) ⌝ }
@@ -166,17 +180,17 @@ fn is_old_key(m: &[u8], t: TkeyFields, suffix: &[u8], k: Key) -> bool
     is_key(name, algorithm, suffix, k)
 }
 
-// The adopted key, if `name` and the TSIG's algorithm are its own.
-fn signer_of(m: &[u8], name: &[u8], s: TsigFields, suffix: &[u8], p: Pair) -> Held
-    requires { ⌜ TsigFits (now m) s × SerialsFit (p .keys) ⌝ }
+// The adopted key, if the TSIG's name, which stands at `place`, and its algorithm are the key's own.
+pub fn signer_of(m: &[u8], place: usize, s: TsigFields, suffix: &[u8], p: Pair) -> Held
+    requires { ⌜ TsigFits (now m) s × SerialsFit (p .keys) × Readable (now m) place ⌝ }
     ensures { λ r. ⌜ ((number : ℕ)
-        → signerOf (holder number (now (suffix .entry)) p) (tsigFrom (now (m .entry)) (now (name .entry)) s) ≡ keyOf r) × HeldFits r ⌝ }
+        → signerOf (holder number (now (suffix .entry)) p) (tsigFrom (now (m .entry)) (nameAt (now (m .entry)) place) s) ≡ keyOf r) × HeldFits r ⌝ }
 {
     let algorithm = messages::part_of(m, s.algorithm);
     match pairs::adopted_of(p) {
         Held::Nothing => Held::Nothing,
         Held::Is(k) => {
-            if is_key(name, algorithm, suffix, k) {
+            if is_key_at(m, place, algorithm, suffix, k) {
                 Held::Is(k)
             } else {
                 Held::Nothing
@@ -454,10 +468,10 @@ fn unknown_by(decision: Decision) -> Judged
     }
 }
 
-// Steps 3 to 9, of a message that a TSIG signs. `signer` is its key name.
+// Steps 3 to 9, of a message that a TSIG signs. Its key's name stands at `place`.
 fn judge_signed(
     m: &[u8],
-    signer: &[u8],
+    place: usize,
     s: TsigFields,
     request: bool,
     t: TkeyFound,
@@ -468,12 +482,12 @@ fn judge_signed(
     p: Pair,
     given: Handed,
 ) -> Judged
-    requires { ⌜ TsigFits (now m) s × FoundFits (now m) t × SerialsFit (p .keys) × (given .now < 2 ^ 48) ⌝ }
+    requires { ⌜ TsigFits (now m) s × FoundFits (now m) t × SerialsFit (p .keys) × (given .now < 2 ^ 48) × Readable (now m) place ⌝ }
     ensures { λ r. ⌜ ((offer : List ℕ) → length offer ≡ given .offer → (subject : List ℕ)
         → judgedAs r ≡ judgeSigned number (now (suffix .entry)) p (givenOf given offer) (contents (now (m .entry)) request t (now (name .entry)) key subject)
-        (tsigFrom (now (m .entry)) (now (signer .entry)) s)) ⌝ }
+        (tsigFrom (now (m .entry)) (nameAt (now (m .entry)) place) s)) ⌝ }
 {
-    match signer_of(m, signer, s, suffix, p) {
+    match signer_of(m, place, s, suffix, p) {
         Held::Nothing => unknown_by(Decision::Refused {
             rcode: NOTAUTH,
             error: BADKEY,
@@ -496,12 +510,11 @@ fn judge_signed(
     }
 }
 
-// Judges a message m: by how it is signed, where `owner` holds the signing key's name; by whether it is a TKEY request, its only TKEY, where `name`
-// holds the TKEY's owner name, and its only KEY; and by the pair that it belongs to.
+// Judges a message m: by how it is signed; by whether it is a TKEY request, its only TKEY, where `name` holds the TKEY's owner name, and its only KEY; and by
+// the pair that it belongs to.
 pub fn judge(
     m: &[u8],
     signer: Signer,
-    owner: &[u8; 255],
     request: bool,
     tkey: TkeyFound,
     name: &[u8; 255],
@@ -512,7 +525,7 @@ pub fn judge(
 ) -> Judged
     requires { ⌜ SignerFits (now m) signer × FoundFits (now m) tkey × WhoFits who × (given .now < 2 ^ 48) ⌝ }
     ensures { λ r. ⌜ ((offer : List ℕ) → length offer ≡ given .offer → (subject : List ℕ)
-        → judgedAs r ≡ judgeRead (holderOf who (now (suffix .entry))) (givenOf given offer) (shown (now (m .entry)) (now (owner .entry)) signer)
+        → judgedAs r ≡ judgeRead (holderOf who (now (suffix .entry))) (givenOf given offer) (shown (now (m .entry)) signer)
         (contents (now (m .entry)) request tkey (now (name .entry)) key subject)) ⌝ }
 {
     match signer {
@@ -530,20 +543,15 @@ pub fn judge(
             rcode: FORMERR,
             error: 0,
         }),
-        Signer::Key {
-            name: count,
-            fields,
-        } => match who {
+        Signer::Key { place, fields } => match who {
             Who::Nobody => unknown_by(Decision::Refused {
                 rcode: NOTAUTH,
                 error: BADKEY,
             }),
             Who::Pair { number, pair } => {
-                let all = &owner[..];
-                let part = &all[..count];
                 judge_signed(
                     m,
-                    part,
+                    place,
                     fields,
                     request,
                     tkey,

@@ -18,11 +18,10 @@ fn key(name: &[u8; 255], length: usize) -> ResolverKey {
     }
 }
 
-// An adoption with the ID 4660 is open.
-fn holder(name: &[u8; 255], length: usize) -> Resolver {
+// A request with the ID 4660 is open.
+fn holder(name: &[u8; 255], length: usize, asking: Asking) -> Resolver {
     let adopted = key(name, length);
     let offered = key(name, length);
-    let asking = Asking::Adoption;
     Resolver {
         holding: Holding::AdoptedAndOffered,
         adopted,
@@ -50,7 +49,7 @@ pub extern "C" fn measure_renewal(
     adopted: &mut [u8; 255],
     offered: &mut [u8; 255],
 ) -> u64 {
-    let s = holder(name, length);
+    let s = holder(name, length, Asking::Adoption);
     let w = resolver::write_renewal(s, 4660, b"", Algorithm::Sha512, 0, 1, record, out);
     keep(w.state, adopted, offered);
     w.number
@@ -64,7 +63,7 @@ pub extern "C" fn measure_adoption(
     adopted: &mut [u8; 255],
     offered: &mut [u8; 255],
 ) -> u64 {
-    let w = resolver::write_adoption(holder(name, length), 4660, out);
+    let w = resolver::write_adoption(holder(name, length, Asking::Adoption), 4660, out);
     keep(w.state, adopted, offered);
     w.number
 }
@@ -77,7 +76,7 @@ pub extern "C" fn measure_deletion(
     adopted: &mut [u8; 255],
     offered: &mut [u8; 255],
 ) -> u64 {
-    let w = resolver::write_deletion(holder(name, length), 4660, out);
+    let w = resolver::write_deletion(holder(name, length, Asking::Adoption), 4660, out);
     keep(w.state, adopted, offered);
     w.number
 }
@@ -90,7 +89,7 @@ pub extern "C" fn measure_note(
     adopted: &mut [u8; 255],
     offered: &mut [u8; 255],
 ) {
-    let s = resolver::note(holder(name, length), id);
+    let s = resolver::note(holder(name, length, Asking::Adoption), id);
     keep(s, adopted, offered);
 }
 
@@ -102,7 +101,21 @@ pub extern "C" fn measure_reply(
     adopted: &mut [u8; 255],
     offered: &mut [u8; 255],
 ) -> u64 {
-    let h = resolver::read_reply(holder(name, length), true, reply);
+    let h = resolver::read_reply(holder(name, length, Asking::Adoption), true, reply);
+    keep(h.state, adopted, offered);
+    h.number
+}
+
+// A reply to a renewal: what it grants becomes the offered key.
+#[no_mangle]
+pub extern "C" fn measure_offer(
+    name: &[u8; 255],
+    length: usize,
+    reply: &[u8],
+    adopted: &mut [u8; 255],
+    offered: &mut [u8; 255],
+) -> u64 {
+    let h = resolver::read_reply(holder(name, length, Asking::Renewal), true, reply);
     keep(h.state, adopted, offered);
     h.number
 }

@@ -23,3 +23,8 @@ pub record QuestionRead (m : List ℕ) (at : ℕ) (out : List ℕ) (r : Query) :
   pub says : questionAt m at ≡ shown r out
   pub bounds : Bounds m r
   pub room : length out ≡ 255
+
+-- The same with the name stepped over: what reading it into an array would answer.
+pub record QuestionSkipped (m : List ℕ) (at : ℕ) (r : Query) : Type 0 where
+  pub out : List ℕ
+  pub read : QuestionRead m at out r

@@ -32,3 +32,8 @@ pub record RecordRead (m : List ℕ) (at : ℕ) (out : List ℕ) (r : Found) : T
   pub says : (section : ℕ) → recordAt m section at ≡ shown m section r out
   pub bounds : Bounds m r
   pub room : length out ≡ 255
+
+-- The same with the owner name stepped over: what reading it into an array would answer.
+pub record RecordSkipped (m : List ℕ) (at : ℕ) (r : Found) : Type 0 where
+  pub out : List ℕ
+  pub read : RecordRead m at out r

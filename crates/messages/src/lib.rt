@@ -3,13 +3,16 @@ use model::Span;
 use names::Got;
 ghost use mathlib.Core.Path.{_≡_};
 ghost use mathlib.Core.Bool.{_&&_};
-ghost use Prim.Native.Nat.{_+_, _≤_, _<_};
+ghost use mathlib.Core.List.{List};
+ghost use Prim.Native.Nat.{ℕ, _+_, _≤_, _<_};
 ghost use lib.Dec.{eqb};
 ghost use lib.ListN.{length};
 ghost use Rattle.model.specs.Octets.{u16At};
+ghost use Rattle.model.specs.Names.{readName};
 ghost use Rattle.model.specs.Messages.{responseOf, opcodeOf, desiredOf};
-ghost use Rattle.messages.specs.Record.{Within, cut, RecordRead};
-ghost use Rattle.messages.specs.Question.{QuestionRead};
+ghost use Rattle.names.specs.Name.{placeOf, NameRead};
+ghost use Rattle.messages.specs.Record.{Within, cut, RecordRead, RecordSkipped};
+ghost use Rattle.messages.specs.Question.{QuestionSkipped};
 ghost use Rattle.messages.specs.Scan.{askedMore, tallied, signedOn, noted, askFrom, scanFrom, scanOn, scanRecords, shownWalk, shownAsking, asksBy, Scanned};
 ghost use Rattle.messages.specs.Answers.{AnswersRead};
 
@@ -78,11 +81,12 @@ pub enum Found {
     },
 }
 
-// The record at `at` of the message m, its owner name written out into `out`.
-pub fn read_record(m: &[u8], out: &mut [u8; 255], at: usize) -> Found
-    ensures { λ r. ⌜ RecordRead (now (m .entry)) at (now (out .exit)) r ⌝ }
+// The record of the message m whose owner name a reader of names answered with.
+fn record_behind(m: &[u8], name: Got) -> Found
+    requires { ⌜ placeOf name ≤ length (now m) ⌝ }
+    ensures { λ r. ⌜ ((at : ℕ) (out : List ℕ) → NameRead (now (m .entry)) (readName (now (m .entry)) at) out name → RecordRead (now (m .entry)) at out r) ⌝ }
 {
-    match names::read_name(m, out, at) {
+    match name {
         Got::Bad(place) => Found::Bad(place),
         Got::Name { len, next } => {
             if m.len() - next < 10 {
@@ -106,7 +110,28 @@ pub fn read_record(m: &[u8], out: &mut [u8; 255], at: usize) -> Found
     }
 }
 
-// A question (RFC 1035, 4.1.2): how many octets its name has in the lent array, its type, its class and the place after it; or the place where
+// The record at `at` of the message m, its owner name written out into `out`.
+pub fn read_record(m: &[u8], out: &mut [u8; 255], at: usize) -> Found
+    ensures { λ r. ⌜ RecordRead (now (m .entry)) at (now (out .exit)) r ⌝ }
+{
+    record_behind(m, names::read_name(m, out, at))
+}
+
+// The same in a loop, for callers with little stack.
+pub fn expand_record(m: &[u8], out: &mut [u8; 255], at: usize) -> Found
+    ensures { λ r. ⌜ RecordRead (now (m .entry)) at (now (out .exit)) r ⌝ }
+{
+    record_behind(m, names::expand_name(m, out, at))
+}
+
+// The record at `at` of the message m, its owner name stepped over where it lies.
+pub fn skip_record(m: &[u8], at: usize) -> Found
+    ensures { λ r. ⌜ RecordSkipped (now (m .entry)) at r ⌝ }
+{
+    record_behind(m, names::skip_name(m, at))
+}
+
+// A question (RFC 1035, 4.1.2): how many octets its name has, expanded, its type, its class and the place after it; or the place where
 // reading failed.
 pub enum Query {
     Bad(usize),
@@ -118,11 +143,11 @@ pub enum Query {
     },
 }
 
-// The question at `at` of the message m, its name written out into `out`.
-pub fn read_question(m: &[u8], out: &mut [u8; 255], at: usize) -> Query
-    ensures { λ r. ⌜ QuestionRead (now (m .entry)) at (now (out .exit)) r ⌝ }
+// The question at `at` of the message m, its name stepped over where it lies.
+pub fn skip_question(m: &[u8], at: usize) -> Query
+    ensures { λ r. ⌜ QuestionSkipped (now (m .entry)) at r ⌝ }
 {
-    match names::read_name(m, out, at) {
+    match names::skip_name(m, at) {
         Got::Bad(place) => Query::Bad(place),
         Got::Name { len, next } => {
             if m.len() - next < 4 {
@@ -249,12 +274,11 @@ fn note(seen: Seen, section: usize, place: usize, kind: usize) -> Seen
 fn questions(m: &[u8], count: usize, at: usize) -> Asking
     ensures { λ r. ⌜ askFrom (now (m .entry)) count Asked.Nothing at ≡ shownAsking r ⌝ }
 {
-    let mut out = [0u8; 255];
     let mut asks = Asked::Nothing;
     let mut place = at;
     let mut left = count;
     while 0 < left {
-        match read_question(m, &mut out, place) {
+        match skip_question(m, place) {
             Query::Bad(p) => return Asking::Bad(p),
             Query::Asks {
                 len: _,
@@ -275,12 +299,11 @@ fn questions(m: &[u8], count: usize, at: usize) -> Asking
 fn records(m: &[u8], section: usize, count: usize, before: Seen, at: usize) -> Walk
     ensures { λ r. ⌜ scanFrom (now (m .entry)) section count before at ≡ shownWalk r ⌝ }
 {
-    let mut out = [0u8; 255];
     let mut seen = before;
     let mut place = at;
     let mut left = count;
     while 0 < left {
-        match read_record(m, &mut out, place) {
+        match skip_record(m, place) {
             Found::Bad(p) => return Walk::Bad(p),
             Found::At {
                 len: _,

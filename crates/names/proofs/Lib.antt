@@ -3,3 +3,5 @@ pub mod Steps
 pub mod Laws
 pub mod Same
 pub mod Wire
+pub mod Skipping
+pub mod Comparing

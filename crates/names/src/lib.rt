@@ -2,12 +2,14 @@
 use model::Algorithm;
 use model::Named;
 ghost use mathlib.Core.Path.{_≡_};
-ghost use mathlib.Core.List.{_++_};
-ghost use Prim.Native.Nat.{_+_, _≤_, _<_, _^_};
+ghost use mathlib.Core.List.{List, [], _++_};
+ghost use Prim.Native.Nat.{ℕ, _+_, _≤_, _<_, _^_};
 ghost use lib.ListN.{length, take, drop, getD};
-ghost use Rattle.model.specs.Names.{labelAt, pointerAt, itemAt, endsAt, readOn, readName, readPlain, wireName, lowerOf, sameName, decimal, serialLabel, keyName, algorithmName, algorithmNamed};
+ghost use Rattle.model.specs.Names.{labelAt, pointerAt, itemAt, endsAt, readOn, readName, readPlain, wireName, lowerOf, sameName, decimal, serialLabel, keyName, afterLabel, algorithmName, algorithmNamed};
 ghost use Rattle.octets.specs.Wrote.{Wrote};
 ghost use Rattle.names.specs.Name.{itemOf, endedAt, NameRead};
+ghost use Rattle.names.specs.Skip.{firstEnd, nameEnd, NameSkipped};
+ghost use Rattle.names.specs.Compare.{nameIs, partIs, FirstLabel};
 
 // What reading a name gives: the place where it failed, or how many octets the expanded name
 // has and the place just after the name where it stands.
@@ -160,12 +162,102 @@ pub fn read_name(m: &[u8], out: &mut [u8; 255], at: usize) -> Got
     labels(m, out, at, at, 0)
 }
 
-// Reads the name at `at` of the data d into out: a name with no pointer in it.
-pub fn read_plain(d: &[u8], out: &mut [u8; 255], at: usize) -> Got
-    ensures { λ r. ⌜ NameRead (now (d .entry)) (readPlain (now (d .entry)) at) (now (out .exit)) r ⌝ }
+// The place after the first pointer of a name: 0 where none was met before this one, at `place`.
+fn first_end(next: usize, place: usize) -> usize
+    requires { ⌜ place + 2 < 2 ^ 64 ⌝ }
+    ensures { λ r. ⌜ r ≡ firstEnd next place ⌝ }
+{
+    if next == 0 { place + 2 } else { next }
+}
+
+// The place after a name whose final 0 stands at `place`.
+fn name_end(next: usize, place: usize) -> usize
+    requires { ⌜ place + 1 < 2 ^ 64 ⌝ }
+    ensures { λ r. ⌜ r ≡ nameEnd next place ⌝ }
+{
+    if next == 0 { place + 1 } else { next }
+}
+
+// Steps over a name where it lies, in a loop and with no array: how many octets it has, expanded, and the place just after it. It is read at `at`, in a run of
+// labels that began at `first`.
+fn skip(m: &[u8], first: usize, at: usize) -> Got
+    ensures { λ r. ⌜ NameSkipped (now (m .entry)) (readOn (now (m .entry)) first at []) r ⌝ }
+{
+    let mut start = first;
+    let mut place = at;
+    let mut len: usize = 0;
+    let mut next: usize = 0;
+    loop {
+        match item_at(m, start, place, len) {
+            Step::Fails(failed) => {
+                return Got::Bad(failed);
+            }
+            Step::Ends => {
+                return Got::Name {
+                    len: len + 1,
+                    next: name_end(next, place),
+                };
+            }
+            Step::Label(n) => {
+                place += n + 1;
+                len += n + 1;
+            }
+            Step::Points(target) => {
+                next = first_end(next, place);
+                start = target;
+                place = target;
+            }
+        }
+    }
+}
+
+// Steps over the name at `at` of the message m.
+pub fn skip_name(m: &[u8], at: usize) -> Got
+    ensures { λ r. ⌜ NameSkipped (now (m .entry)) (readName (now (m .entry)) at) r ⌝ }
+{
+    skip(m, at, at)
+}
+
+// Steps over the name at `at` of the data d: a name with no pointer in it.
+pub fn skip_plain(d: &[u8], at: usize) -> Got
+    ensures { λ r. ⌜ NameSkipped (now (d .entry)) (readPlain (now (d .entry)) at) r ⌝ }
+{
+    skip(d, 0, at)
+}
+
+// Reads the name at `at` of the message m into out, as read_name does, in a loop: for callers with little stack.
+pub fn expand_name(m: &[u8], out: &mut [u8; 255], at: usize) -> Got
+    ensures { λ r. ⌜ NameRead (now (m .entry)) (readName (now (m .entry)) at) (now (out .exit)) r ⌝ }
 {
     *out = [0u8; 255];
-    labels(d, out, 0, at, 0)
+    let mut start = at;
+    let mut place = at;
+    let mut len: usize = 0;
+    let mut next: usize = 0;
+    loop {
+        match item_at(m, start, place, len) {
+            Step::Fails(failed) => {
+                return Got::Bad(failed);
+            }
+            Step::Ends => {
+                out[len] = 0;
+                return Got::Name {
+                    len: len + 1,
+                    next: name_end(next, place),
+                };
+            }
+            Step::Label(n) => {
+                copy(m, out, place, len, n + 1);
+                place += n + 1;
+                len += n + 1;
+            }
+            Step::Points(target) => {
+                next = first_end(next, place);
+                start = target;
+                place = target;
+            }
+        }
+    }
 }
 
 // Names compare without regard to the case of A to Z (RFC 1035, 2.3.3; RFC 4343).
@@ -186,12 +278,108 @@ pub fn same_name(a: &[u8], b: &[u8]) -> bool
     }
     let mut i = 0;
     while i < a.len() {
-        if lower(a[i]) != lower(b[i]) {
+        let p = a[i];
+        let q = b[i];
+        let x = lower(p);
+        let y = lower(q);
+        if x != y {
             return false;
         }
         i += 1;
     }
     true
+}
+
+// ── Comparing a name where it lies ──────────────────────────────────────────────────────────────────────────────────
+
+// Compares octets with the rest of a name in the message m, where it lies: no array, and pointers are followed in a loop. The rest is read on at `at`, in a run
+// of labels that began at `first`, after `used` octets of the name.
+fn same_rest(m: &[u8], first: usize, at: usize, used: usize, b: &[u8]) -> bool
+    requires { ⌜ used < 255 ⌝ }
+    ensures { λ r. ⌜ ((before : List ℕ) → length before ≡ used → r ≡ partIs (drop used) (readOn (now (m .entry)) first at before) (now (b .entry))) ⌝ }
+{
+    let mut start = first;
+    let mut place = at;
+    let mut len = used;
+    let mut i: usize = 0;
+    loop {
+        match item_at(m, start, place, len) {
+            Step::Fails(_) => {
+                return false;
+            }
+            Step::Ends => {
+                return same_name(b"\x00", &b[i..]);
+            }
+            Step::Label(n) => {
+                let size = n + 1;
+                if b.len() - i < size {
+                    return false; // b is the shorter name
+                }
+                let end = place + size;
+                let to = i + size;
+                if same_name(&m[place..end], &b[i..to]) {
+                    place = end;
+                    len += size;
+                    i = to;
+                } else {
+                    return false;
+                }
+            }
+            Step::Points(further) => {
+                start = further;
+                place = further;
+            }
+        }
+    }
+}
+
+// Whether the name at `at` of the message m is the name b.
+pub fn same_at(m: &[u8], at: usize, b: &[u8]) -> bool
+    ensures { λ r. ⌜ r ≡ nameIs (readName (now (m .entry)) at) (now (b .entry)) ⌝ }
+{
+    same_rest(m, at, at, 0, b)
+}
+
+// The first label of a name: the name cannot be read; it is the root and has none; or a run of labels begins at `place` with a label that has `size` octets,
+// its length octet counted.
+enum First {
+    Nothing,
+    Root,
+    Label { place: usize, size: usize },
+}
+
+// The first label of the name at `at` of the message m.
+fn first_label(m: &[u8], at: usize) -> First
+    ensures { λ r. ⌜ FirstLabel (now (m .entry)) (readName (now (m .entry)) at) r ⌝ }
+{
+    let mut place = at;
+    loop {
+        match item_at(m, place, place, 0) {
+            Step::Fails(_) => {
+                return First::Nothing;
+            }
+            Step::Ends => {
+                return First::Root;
+            }
+            Step::Label(n) => {
+                return First::Label { place, size: n + 1 };
+            }
+            Step::Points(target) => {
+                place = target;
+            }
+        }
+    }
+}
+
+// Whether b is what follows the first label of the name at `at` of the message m.
+pub fn is_suffix_at(m: &[u8], at: usize, b: &[u8]) -> bool
+    ensures { λ r. ⌜ r ≡ partIs afterLabel (readName (now (m .entry)) at) (now (b .entry)) ⌝ }
+{
+    match first_label(m, at) {
+        First::Nothing => false,
+        First::Root => b.len() == 0,
+        First::Label { place, size } => same_rest(m, place, place + size, size, b),
+    }
 }
 
 // Writes the digits of n from `at` on, with no leading zero, and returns the place after them. 0 has none.
@@ -262,6 +450,34 @@ pub fn is_key_name(name: &[u8], serial: u64, suffix: &[u8]) -> bool
     let mut label = [0u8; 11];
     let n = serial_label(serial, &mut label);
     is_joined(name, &label, n, suffix)
+}
+
+// Whether a label, its length octet first, is the label of this serial.
+fn is_label(label: &[u8], serial: u64) -> bool
+    requires { ⌜ serial < 2 ^ 32 ⌝ }
+    ensures { λ r. ⌜ r ≡ sameName (now (label .entry)) (serialLabel serial) ⌝ }
+{
+    let mut own = [0u8; 11];
+    let n = serial_label(serial, &mut own);
+    is_joined(label, &own, n, &label[..0])
+}
+
+// The same of the name at `at` of the message m, where it lies.
+pub fn is_key_name_at(m: &[u8], at: usize, serial: u64, suffix: &[u8]) -> bool
+    requires { ⌜ serial < 2 ^ 32 ⌝ }
+    ensures { λ r. ⌜ r ≡ nameIs (readName (now (m .entry)) at) (keyName serial (now (suffix .entry))) ⌝ }
+{
+    match first_label(m, at) {
+        First::Nothing => false,
+        First::Root => is_key_name(b"\x00", serial, suffix),
+        First::Label { place, size } => {
+            let end = place + size;
+            if is_label(&m[place..end], serial) {
+                return same_rest(m, place, end, size, suffix);
+            }
+            false
+        }
+    }
 }
 
 // The octets are one uncompressed wire name and nothing more (RFC 1035, 3.1).

@@ -14,8 +14,7 @@ ghost use Rattle.requests.specs.Pieces.{headerOctets, questionOctets, as
 pub fn is_key_record(key: &[u8]) -> bool
     ensures { λ r. ⌜ r ≡ isKeyRecord (now (key .entry)) ⌝ }
 {
-    let mut owner = [0u8; 255];
-    match names::read_plain(key, &mut owner, 0) {
+    match names::skip_plain(key, 0) {
         Got::Bad(_) => false,
         Got::Name { len: _, next } => {
             if key.len() - next < 10 {

@@ -23,6 +23,7 @@ use Rattle.model.specs.Judging.{partialRevoke}
 use Rattle.model.specs.Calls.{sizeOk}
 use Rattle.model.specs.Resolver.{LOST, WRONGID, UNSIGNED, FORMAT, TkeyAnswer, onlyAnswer, answerIn, offeredBy, renewedIn, moved, isMode, movedBy, closed, unheard, rcodeOf, accepted, heard, readReply}
 use Rattle.model.proofs.Tests.{and-false}
+use Rattle.names.specs.Compare.{nameAt}
 use Rattle.messages.specs.declared.Kept.{Kept}
 use Rattle.messages.specs.declared.Seen.{Seen}
 use Rattle.messages.specs.declared.Outline.{Outline}
@@ -117,10 +118,10 @@ hears s asking m end error r a = record { says = λ request seen w t e. rw (a .s
 
 -- ── Checks ──────────────────────────────────────────────────────────────────────────────────────────────────────────
 
-module _ (s : Resolver) (asking : Asking) (good : Bool) (m : List ℕ) (end : ℕ) (sign : Kept) (owner : List ℕ) (g : Signer) (q : SignatureRead m sign owner g) (r : Heard) where
+module _ (s : Resolver) (asking : Asking) (good : Bool) (m : List ℕ) (end : ℕ) (sign : Kept) (g : Signer) (q : SignatureRead m sign g) (r : Heard) where
   signs : (request : Bool) (seen : Seen) (w : WholeRead m end request seen) → seen .sign ≡ sign → (x : Signer) → g ≡ x
-      → signature (w .message .records) ≡ signerShown m owner x
-  signs request seen w e x h = w .signing ∙ ap (signatureAt m) e ∙ q .says ∙ ap (signerShown m owner) h
+      → signature (w .message .records) ≡ signerShown m x
+  signs request seen w e x h = w .signing ∙ ap (signatureAt m) e ∙ q .says ∙ ap (signerShown m) h
 
   pub by-nobody : g ≡ Nobody → r ≡ unheard s 3 → HearsSigned s asking good m end sign r
   unfolding UNSIGNED
@@ -130,14 +131,14 @@ module _ (s : Resolver) (asking : Asking) (good : Bool) (m : List ℕ) (end : �
   unfolding UNSIGNED
   by-ill h i = record { says = λ request seen w e. i ∙ rw (signs request seen w e Ill h) refl }
 
-  module _ (n : ℕ) (t : TsigFields) (h : g ≡ Key n t) where
+  module _ (place : ℕ) (t : TsigFields) (h : g ≡ Key place t) where
     pub by-verdict : good ≡ false → r ≡ unheard s 3 → HearsSigned s asking good m end sign r
     unfolding UNSIGNED
-    by-verdict v i = record { says = λ request seen w e. i ∙ rw (signs request seen w e (Key n t) h, v) refl }
+    by-verdict v i = record { says = λ request seen w e. i ∙ rw (signs request seen w e (Key place t) h, v) refl }
 
     pub by-signed : good ≡ true → Hears s asking m end (t .error) r → HearsSigned s asking good m end sign r
     by-signed v i = record {
-      says = λ request seen w e. i .says request seen w (tsigFrom m (take n owner) t) refl ∙ rw (signs request seen w e (Key n t) h, v) refl;
+      says = λ request seen w e. i .says request seen w (tsigFrom m (nameAt m place) t) refl ∙ rw (signs request seen w e (Key place t) h, v) refl;
     }
 
 module _ (s : Resolver) (good : Bool) (m : List ℕ) (end : ℕ) (seen : Seen) (r : Heard) where

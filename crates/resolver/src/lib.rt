@@ -551,11 +551,10 @@ fn hear_signed(s: Resolver, asking: Asking, good: bool, m: &[u8], end: usize, si
     requires { ⌜ 12 ≤ length (now m) ⌝ }
     ensures { λ r. ⌜ HearsSigned s asking good (now (m .entry)) end sign r ⌝ }
 {
-    let mut owner = [0u8; 255];
-    match tsig::signed_by(m, &mut owner, sign) {
+    match tsig::signed_by(m, sign) {
         Signer::Nobody => refuse_reply(s, 3),
         Signer::Ill => refuse_reply(s, 3),
-        Signer::Key { name: _, fields } => {
+        Signer::Key { place: _, fields } => {
             if !good {
                 return refuse_reply(s, 3);
             }

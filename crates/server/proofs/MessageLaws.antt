@@ -6,11 +6,10 @@ use mathlib.Core.Option.{Option, none, some, Option·none-ne-some}
 use mathlib.Core.List.{List, []}
 use native.Mathlib.Omega.{arith}
 use lib.Dec.{leb}
-use lib.ListN.{length, take}
+use lib.ListN.{length}
 use lib.IntN.{ℤ}
 use borrow.Author.Tests.{le-leb, lt-leb, ltb-true, leb-true}
-use Rattle.model.specs.declared.Keys.{Keys}
-use Rattle.model.specs.declared.Keys.the-variants.{Empty, Adopted, Renewing}
+use Rattle.model.specs.declared.Keys.the-variants.{Empty}
 use Rattle.model.specs.declared.Pair.{Pair}
 use Rattle.model.specs.declared.Table.{Table}
 use Rattle.model.specs.declared.Answer.{Answer}
@@ -25,7 +24,6 @@ use Rattle.model.specs.Judging.{Holder, nobody, holder, heldSuffix, heldPair, G
 use Rattle.model.specs.Replies.{replyOf, errorOf, skewOf}
 use Rattle.model.specs.Calls.{DONE, ROOM, NOTQUERY, Result, refusal, unchanged, timeFits, sizeOk, offerOk, replyTo, replied, Call, message, signedBy, holderAt, served, bufferAfter}
 use Rattle.model.proofs.Tests.{left}
-use Rattle.model.proofs.RuleFacts.{KeysOk, pair-sound}
 use Rattle.model.proofs.Rows.{row-below}
 use Rattle.model.proofs.Decisions.{Allows, allows}
 use Rattle.model.proofs.CallLaws.{holderBy, withHeld, buffer-refused, message-response, message-room, message-done}
@@ -33,8 +31,9 @@ use Rattle.messages.specs.declared.Seen.{Seen}
 use Rattle.messages.specs.Scan.{WholeRead}
 use Rattle.tsig.specs.declared.TsigFields.{TsigFields}
 use Rattle.tsig.specs.declared.Signer.{Signer}
-use Rattle.tsig.specs.declared.Signer.the-variants.{Nobody, Ill, Key}
-use Rattle.tsig.specs.Signature.{shown as signerShown, SignerFits, SignatureRead}
+use Rattle.tsig.specs.declared.Signer.the-variants.{Key}
+use Rattle.names.specs.Compare.{nameAt}
+use Rattle.tsig.specs.Signature.{shown as signerShown, SignatureRead}
 use Rattle.tkey.specs.declared.TkeyFound.{TkeyFound}
 use Rattle.tkey.specs.declared.KeyFound.{KeyFound}
 use Rattle.tkey.specs.Fields.{TkeyRead}
@@ -47,15 +46,16 @@ use Rattle.tables.proofs.Laws.{suffix-short}
 use Rattle.judging.specs.declared.Who.the-variants.{Nobody as Unowned, Pair as Owner}
 use Rattle.judging.specs.declared.Handed.{Handed}
 use Rattle.judging.specs.declared.Judged.{Judged}
-use Rattle.judging.specs.Judged.{givenOf, contents, judgedAs, SerialsFit}
+use Rattle.judging.specs.Judged.{givenOf, contents, judgedAs}
 use Rattle.replies.specs.declared.Written.{Written}
 use Rattle.replies.specs.declared.Written.the-variants.{Reply, NoRoom}
 use Rattle.replies.specs.Written.{Answers, DecisionFits}
 use Rattle.server.specs.declared.Outcome.{Outcome}
 use Rattle.server.specs.declared.Response.{Response}
 use Rattle.server.specs.Shown.{shown}
-use Rattle.server.specs.Answered.{ShortName, Heard, Ready, Fitting, Responded, repliedAs, settled, Shows}
+use Rattle.server.specs.Answered.{Heard, Ready, Fitting, Responded, repliedAs, settled, Shows}
 use Rattle.server.proofs.Numbers.{low-judge, fits-by}
+use Rattle.server.proofs.LookLaws.{serials-fit}
 
 -- ── Results ─────────────────────────────────────────────────────────────────────────────────────────────────────────
 
@@ -105,14 +105,14 @@ module _ (offer : List ℕ) where
   offer-fits h = le-leb (length offer) 1024 h
 
 pub heard :
-    {m : List ℕ} {end : ℕ} {request : Bool} {seen : Seen} {signer : Signer} {owner : List ℕ} {found : TkeyFound} {name : List ℕ} {key : KeyFound} {subject : List ℕ}
+    {m : List ℕ} {end : ℕ} {request : Bool} {seen : Seen} {signer : Signer} {found : TkeyFound} {name : List ℕ} {key : KeyFound} {subject : List ℕ}
     → WholeRead m end request seen
     → responseOf m ≡ false
     → length m ≤ 65535
-    → SignatureRead m (seen .sign) owner signer
+    → SignatureRead m (seen .sign) signer
     → TkeyRead m (seen .tkey) name found
     → KeyRead m (seen .key) subject key
-    → Heard m end request signer owner found name key subject
+    → Heard m end request signer found name key subject
 heard w e h s t k =
     record {
       message = w .message;
@@ -133,9 +133,9 @@ heard w e h s t k =
 
 -- Judging what was read is judging the message.
 module _
-    {m : List ℕ} {end : ℕ} {request : Bool} {signer : Signer} {owner : List ℕ} {found : TkeyFound} {name : List ℕ} {key : KeyFound} {subject : List ℕ}
-    (x : Heard m end request signer owner found name key subject) (h : Holder) (g : Given) (j : Judged)
-    (is : judgedAs j ≡ judgeRead h g (signerShown m owner signer) (contents m request found name key subject)) where
+    {m : List ℕ} {end : ℕ} {request : Bool} {signer : Signer} {found : TkeyFound} {name : List ℕ} {key : KeyFound} {subject : List ℕ}
+    (x : Heard m end request signer found name key subject) (h : Holder) (g : Given) (j : Judged)
+    (is : judgedAs j ≡ judgeRead h g (signerShown m signer) (contents m request found name key subject)) where
   pub judged-so : judgedAs j ≡ judge h g (x .message)
   unfolding judge contentsOf
   judged-so = is ∙ rw (x .signing, x .requests, x .parts .tkey, x .parts .key-record) refl
@@ -154,28 +154,13 @@ module _
 
 -- ── Whose message ───────────────────────────────────────────────────────────────────────────────────────────────────
 
-pub short-name : (m : List ℕ) (s : Signer) → SignerFits m s → ShortName s
-short-name m Nobody f = tt
-short-name m Ill f = tt
-short-name m (Key n t) f = f .0
-
-module _ (n : Names) (owner : List ℕ) (s : Signer) where
-  pub row-nobody : s ≡ Nobody → (m : List ℕ) → signedBy n (signerShown m owner s) ≡ none
-  row-nobody e m = ap (λ (x : Signer). signedBy n (signerShown m owner x)) e
-
-  pub row-ill : s ≡ Ill → (m : List ℕ) → signedBy n (signerShown m owner s) ≡ none
-  row-ill e m = ap (λ (x : Signer). signedBy n (signerShown m owner x)) e
-
-  pub row-found :
-      (k : ℕ) (f : TsigFields)
-      → s ≡ Key k f
-      → (x : List ℕ)
-      → x ≡ afterLabel (take k owner)
-      → (r : Found)
-      → rowNamed n (n .count) x ≡ rowOf r
-      → (m : List ℕ)
-      → signedBy n (signerShown m owner s) ≡ rowOf r
-  row-found k f e x a r w m = ap (λ (x : Signer). signedBy n (signerShown m owner x)) e ∙ ap (rowNamed n (n .count)) (sym a) ∙ w
+pub row-found :
+    (n : Names) (m : List ℕ) (s : Signer) (place : ℕ) (f : TsigFields)
+    → s ≡ Key place f
+    → (r : Found)
+    → rowNamed n (n .count) (afterLabel (nameAt m place)) ≡ rowOf r
+    → signedBy n (signerShown m s) ≡ rowOf r
+row-found n m s place f e r w = ap (λ (x : Signer). signedBy n (signerShown m x)) e ∙ w
 
 below : (n : Names) (s : Signature) (i : ℕ) → signedBy n s ≡ some i → i < n .count
 below n unsigned i e = absurd (Option·none-ne-some i e)
@@ -192,14 +177,6 @@ unfolding namesOf
 row-below-count t s i e = below (namesOf t) s i e
 
 -- ── What judging and the writer of the reply are handed ─────────────────────────────────────────────────────────────
-
-low-serials : (l n c : ℕ) (ks : Keys) → n ≤ 2 ^ 32 → KeysOk l n c ks → SerialsFit ks
-low-serials l n c Empty h o = tt
-low-serials l n c (Adopted a) h o = omega arith
-low-serials l n c (Renewing a w) h o = let x = o .0 in let y = o .1 in (omega arith, omega arith)
-
-pub serials-fit : (clock : ℕ) (p : Pair) → pairRule clock p ≡ true → SerialsFit (p .keys)
-serials-fit clock p e = let o = pair-sound clock p e in low-serials (p .lifetime) (p .«next_serial») clock (p .keys) (o .last) (o .keys-ok)
 
 early-time : (time : ℕ) → timeFits time ≡ true → time < 2 ^ 48
 unfolding timeFits
@@ -243,15 +220,15 @@ answerOf j n = record { number = 0; length = n; error = errorOf (j .decision); s
 
 module _
     (t : Table) (given : Handed) (m offer : List ℕ) (ready : Ready t given m offer)
-    {end : ℕ} {request : Bool} {signer : Signer} {owner : List ℕ} {found : TkeyFound} {name : List ℕ} {key : KeyFound} {subject : List ℕ}
-    (x : Heard m end request signer owner found name key subject) (b b′ : List ℕ) where
+    {end : ℕ} {request : Bool} {signer : Signer} {found : TkeyFound} {name : List ℕ} {key : KeyFound} {subject : List ℕ}
+    (x : Heard m end request signer found name key subject) (b b′ : List ℕ) where
   abbrev call : Call
   call = message (given .now) (given .good) offer (length b) m
 
   abbrev g : Given
   g = givenOf given offer
 
-  module _ (o : Option ℕ) (row : signedBy (namesOf t) (signerShown m owner signer) ≡ o) (j : Judged) (is : judgedAs j ≡ judge (holderBy t o) g (x .message)) where
+  module _ (o : Option ℕ) (row : signedBy (namesOf t) (signerShown m signer) ≡ o) (j : Judged) (is : judgedAs j ≡ judge (holderBy t o) g (x .message)) where
     its-row : signedBy (namesOf t) (signature (x .message .records)) ≡ o
     its-row = ap (signedBy (namesOf t)) (x .signing) ∙ row
 
@@ -275,7 +252,7 @@ module _
 
   module _ (r : Response) (z : Outcome) where
     pub shows-nobody :
-        signedBy (namesOf t) (signerShown m owner signer) ≡ none
+        signedBy (namesOf t) (signerShown m signer) ≡ none
         → Responded nobody g (x .message) b b′ r
         → z ≡ settled t t (r .judged) (r .written)
         → Shows (served t call) b z b′
@@ -286,7 +263,7 @@ module _
         (i : ℕ) (p : Pair) (y : List ℕ)
         → p ≡ pairAt t i
         → ((count : ℕ) → y ≡ suffixAt (namesIn count (t .suffixes) (t .lengths)) i)
-        → signedBy (namesOf t) (signerShown m owner signer) ≡ some i
+        → signedBy (namesOf t) (signerShown m signer) ≡ some i
         → Responded (holder (i + 1) y p) g (x .message) b b′ r
         → z ≡ settled t (withPair t i (changed (r .judged .decision) (given .now) p)) (r .judged) (r .written)
         → Shows (served t call) b z b′

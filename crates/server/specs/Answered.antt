@@ -15,7 +15,6 @@ use Rattle.model.specs.Judging.{Holder, heldSuffix, heldPair, Given, judge}
 use Rattle.model.specs.Replies.{replyOf, errorOf, skewOf}
 use Rattle.model.specs.Calls.{Result, sizeOk, offerOk, bufferAfter}
 use Rattle.tsig.specs.declared.Signer.{Signer}
-use Rattle.tsig.specs.declared.Signer.the-variants.{Nobody, Ill, Key}
 use Rattle.tsig.specs.Signature.{shown, SignerFits}
 use Rattle.tkey.specs.declared.TkeyFound.{TkeyFound}
 use Rattle.tkey.specs.declared.KeyFound.{KeyFound}
@@ -33,23 +32,17 @@ use Rattle.server.specs.declared.Outcome.{Outcome}
 use Rattle.server.specs.declared.Response.{Response}
 use Rattle.server.specs.Gate.{Open}
 
--- The TSIG's name has no more octets than the array that holds it.
-abbrev pub ShortName : Signer → Type 0
-ShortName Nobody = Unit {0}
-ShortName Ill = Unit {0}
-ShortName (Key n t) = n ≤ 255
-
 -- What was read of the message m: a query, its question section, whether it is a TKEY request, how it is signed, its only TKEY and its only KEY.
--- `owner`, `name` and `subject` hold the names of the signing key, the TKEY and the KEY.
+-- `name` and `subject` hold the names of the TKEY and the KEY.
 pub record Heard
-    (m : List ℕ) (end : ℕ) (request : Bool) (signer : Signer) (owner : List ℕ) (found : TkeyFound) (name : List ℕ) (key : KeyFound) (subject : List ℕ) : Type 0 where
+    (m : List ℕ) (end : ℕ) (request : Bool) (signer : Signer) (found : TkeyFound) (name : List ℕ) (key : KeyFound) (subject : List ℕ) : Type 0 where
   pub message : Message
   pub says : readMessage m ≡ reads message (length m)
   pub query : message .response ≡ false
   pub read : Read m end
   pub parts : ReadAs m end found name key subject message
   pub requests : tkeyRequest message ≡ request
-  pub signing : signature (message .records) ≡ shown m owner signer
+  pub signing : signature (message .records) ≡ shown m signer
   pub signer-fits : SignerFits m signer
   pub tkey-fits : FoundFits m found
   pub key-fits : KeyFits m key

@@ -24,28 +24,27 @@ use tsig::TsigFields;
 ghost use mathlib.Core.Path.{_≡_};
 ghost use mathlib.Core.Bool.{Bool, true, false};
 ghost use mathlib.Core.Option.{some, none};
-ghost use mathlib.Core.List.{List};
-ghost use Prim.Native.Nat.{ℕ, _+_, _≤_, _<_, _^_};
-ghost use lib.ListN.{length, take};
-ghost use Rattle.model.specs.declared.Key.{Key};
-ghost use Rattle.model.specs.Names.{afterLabel, algorithmNumbered};
-ghost use Rattle.model.specs.Tsig.{Tsig, signed};
+ghost use Prim.Native.Nat.{ℕ, _+_, _≤_, _<_};
+ghost use lib.ListN.{length};
+ghost use Rattle.model.specs.Names.{algorithmNumbered};
+ghost use Rattle.model.specs.Tsig.{signed};
 ghost use Rattle.model.specs.Pairs.{issued, revoked};
-ghost use Rattle.model.specs.Tables.{Names, namesOf, pairAt, withPair, suffixAt, suffixOk, termOk};
+ghost use Rattle.model.specs.Tables.{Names, namesOf, pairAt, withPair, suffixOk, termOk};
 ghost use Rattle.model.specs.Replies.{errorOf, skewOf};
-ghost use Rattle.model.specs.Judging.{adoptedOf, isKey, changed};
+ghost use Rattle.model.specs.Judging.{changed};
 ghost use Rattle.model.specs.Calls.{done, unchanged, timeFits, withRow, freshPair, newTable, enrolled, enrolOn, sizeOk, numberOwner, issue as issueCall, revoke as revokeCall, look as lookCall, message as messageCall, signedBy, served, issueOn, revokeOn, lookOn, messageOn};
 ghost use Rattle.model.specs.Messages.{responseOf};
-ghost use Rattle.messages.specs.Record.{Within};
+ghost use Rattle.names.specs.Compare.{nameAt, Readable};
 ghost use Rattle.messages.specs.Scan.{signatureAt, WholeRead};
-ghost use Rattle.tsig.specs.Signature.{tsigFrom, shown as signerShown};
+ghost use Rattle.tsig.specs.Signature.{tsigFrom, shown as signerShown, SignerFits};
+ghost use Rattle.tsig.specs.Signature.{Fits as TsigFits};
 ghost use Rattle.pairs.specs.Fits.{Fits};
 ghost use Rattle.tables.specs.Rows.{namesIn, rowOf, Room};
-ghost use Rattle.judging.specs.Judged.{holderOf, givenOf};
+ghost use Rattle.judging.specs.Judged.{holderOf, givenOf, SerialsFit};
 ghost use Rattle.server.specs.Shown.{shown};
 ghost use Rattle.server.specs.Gate.{Sound, Open, First};
 ghost use Rattle.server.specs.Look.{lookedAt, lookedBy};
-ghost use Rattle.server.specs.Answered.{ShortName, Heard, Ready, Fitting, Responded, repliedAs, settled, Shows};
+ghost use Rattle.server.specs.Answered.{Heard, Ready, Fitting, Responded, repliedAs, settled, Shows};
 
 // What a call returns: its numbers, and the table that it leaves.
 pub struct Outcome {
@@ -318,79 +317,29 @@ pub fn revoke(table: Table, time: u64, pair: u64) -> Outcome
 
 // ── Look ────────────────────────────────────────────────────────────────────────────────────────────────────────────
 
-// What follows the first label of a name.
-fn after_label(name: &[u8]) -> &[u8]
-    ensures { λ r. ⌜ now r ≡ afterLabel (now (name .entry)) ⌝ }
+// The adopted key of the pair p of row i, if it is the TSIG's, whose name stands in the message m at `place`.
+fn look_row(t: Table, i: usize, p: Pair, m: &[u8], place: usize, fields: TsigFields) -> Outcome
+    requires { ⌜ (i < 64) × SerialsFit (p .keys) × Readable (now m) place × TsigFits (now m) fields ⌝ }
+    ensures { λ r. ⌜ (p ≡ pairAt t i
+        → shown r ≡ record { table = t; outcome = lookedAt t (tsigFrom (now (m .entry)) (nameAt (now (m .entry)) place) fields) (some i) }) ⌝ }
 {
-    if name.len() == 0 {
-        return name;
-    }
-    let at = octets::wide(name[0]) + 1;
-    if name.len() <= at {
-        let end = name.len();
-        return &name[end..];
-    }
-    &name[at..]
-}
-
-// Whether a name and an algorithm are those of the key k, of the pair of row i.
-fn is_key<'a>(
-    suffixes: &'a [u8; 8192],
-    lengths: &'a [usize; 64],
-    i: usize,
-    k: Key,
-    name: &[u8],
-    algorithm: &[u8],
-) -> bool
-    requires { ⌜ k .serial < 2 ^ 32 ⌝ }
-    ensures { λ r. ⌜ ((count : ℕ) → r ≡ isKey (now (name .entry)) (now (algorithm .entry)) (suffixAt (namesIn count (now (suffixes .entry)) (now (lengths .entry))) i) k) ⌝ }
-{
-    let suffix = tables::suffix_at(suffixes, lengths, i);
-    let g = k.algorithm;
-    if names::is_key_name(name, k.serial, suffix) {
-        return names::is_algorithm(algorithm, g);
-    }
-    false
-}
-
-// The adopted key of the pair p of row i, if the name and the algorithm are its.
-fn look_row(t: Table, i: usize, p: Pair, name: &[u8], algorithm: &[u8]) -> Outcome
-    requires { ⌜ (i < 64) × ((k : Key) → adoptedOf (p .keys) ≡ some k → k .serial < 2 ^ 32) ⌝ }
-    ensures { λ r. ⌜ ((s : Tsig) → p ≡ pairAt t i → s .name ≡ now (name .entry) → s .algorithm ≡ now (algorithm .entry)
-        → shown r ≡ record { table = t; outcome = lookedAt t s (some i) }) ⌝ }
-{
-    match pairs::adopted_of(p) {
+    let suffix = tables::suffix_at(&t.suffixes, &t.lengths, i);
+    match judging::signer_of(m, place, fields, suffix, p) {
         Held::Nothing => finished(t, 0, 0),
-        Held::Is(k) => {
-            if is_key(&t.suffixes, &t.lengths, i, k, name, algorithm) {
-                return finished(t, (i + 1) as u64, k.serial);
-            }
-            finished(t, 0, 0)
-        }
+        Held::Is(k) => finished(t, (i + 1) as u64, k.serial),
     }
 }
 
-// The pair whose suffix follows the name's first label, then as above.
-fn look_named(t: Table, name: &[u8], algorithm: &[u8]) -> Outcome
-    requires { ⌜ Sound t ⌝ }
-    ensures { λ r. ⌜ ((s : Tsig) → s .name ≡ now (name .entry) → s .algorithm ≡ now (algorithm .entry)
-        → shown r ≡ record { table = t; outcome = lookedBy t (signed s) }) ⌝ }
+// The pair whose suffix follows the first label of the TSIG's name, then as above.
+fn look_tsig(t: Table, m: &[u8], place: usize, fields: TsigFields) -> Outcome
+    requires { ⌜ Sound t × Readable (now m) place × TsigFits (now m) fields ⌝ }
+    ensures { λ r. ⌜ shown r ≡ record { table = t; outcome = lookedBy t (signed (tsigFrom (now (m .entry)) (nameAt (now (m .entry)) place) fields)) } ⌝ }
 {
     let count = t.count;
-    match tables::find(&t.suffixes, &t.lengths, count, after_label(name)) {
-        Found::Row(i) => look_row(t, i, tables::pair_at(t, i), name, algorithm),
+    match tables::find_after(&t.suffixes, &t.lengths, count, m, place) {
+        Found::Row(i) => look_row(t, i, tables::pair_at(t, i), m, place, fields),
         Found::Nowhere => finished(t, 0, 0),
     }
-}
-
-// Of the TSIG with these fields in the message m, its name the first n octets of `owner`.
-fn look_tsig(t: Table, m: &[u8], owner: &[u8; 255], n: usize, fields: TsigFields) -> Outcome
-    requires { ⌜ Sound t × (n ≤ 255) × Within (now m) (fields .algorithm) ⌝ }
-    ensures { λ r. ⌜ shown r ≡ record { table = t; outcome = lookedBy t (signed (tsigFrom (now (m .entry)) (take n (now (owner .entry))) fields)) } ⌝ }
-{
-    let all = &owner[..];
-    let span = fields.algorithm;
-    look_named(t, &all[..n], messages::part_of(m, span))
 }
 
 // By what a scan kept of the TSIG.
@@ -398,11 +347,10 @@ fn look_signature(t: Table, m: &[u8], sign: Kept) -> Outcome
     requires { ⌜ Sound t ⌝ }
     ensures { λ r. ⌜ shown r ≡ record { table = t; outcome = lookedBy t (signatureAt (now (m .entry)) sign) } ⌝ }
 {
-    let mut owner = [0u8; 255];
-    match tsig::signed_by(m, &mut owner, sign) {
+    match tsig::signed_by(m, sign) {
         Signer::Nobody => finished(t, 0, 0),
         Signer::Ill => finished(t, 0, 0),
-        Signer::Key { name, fields } => look_tsig(t, m, &owner, name, fields),
+        Signer::Key { place, fields } => look_tsig(t, m, place, fields),
     }
 }
 
@@ -459,23 +407,22 @@ struct Response {
     written: Written,
 }
 
-// The row whose suffix follows the first label of the TSIG's name, which `owner` holds.
+// The row whose suffix follows the first label of the TSIG's name.
 fn row_signed<'a>(
     suffixes: &'a [u8; 8192],
     lengths: &'a [usize; 64],
     count: usize,
+    m: &[u8],
     signer: Signer,
-    owner: &[u8; 255],
 ) -> Found
-    requires { ⌜ ShortName signer ⌝ }
-    ensures { λ r. ⌜ ((m : List ℕ) → signedBy (namesIn count (now (suffixes .entry)) (now (lengths .entry))) (signerShown m (now (owner .entry)) signer) ≡ rowOf r) ⌝ }
+    requires { ⌜ SignerFits (now m) signer ⌝ }
+    ensures { λ r. ⌜ signedBy (namesIn count (now (suffixes .entry)) (now (lengths .entry))) (signerShown (now (m .entry)) signer) ≡ rowOf r ⌝ }
 {
     match signer {
         Signer::Nobody => Found::Nowhere,
         Signer::Ill => Found::Nowhere,
-        Signer::Key { name, fields: _ } => {
-            let all = &owner[..];
-            tables::find(suffixes, lengths, count, after_label(&all[..name]))
+        Signer::Key { place, fields: _ } => {
+            tables::find_after(suffixes, lengths, count, m, place)
         }
     }
 }
@@ -580,7 +527,6 @@ fn respond<'a>(
     end: usize,
     request: bool,
     signer: Signer,
-    owner: &[u8; 255],
     found: TkeyFound,
     name: &[u8; 255],
     key: KeyFound,
@@ -591,23 +537,12 @@ fn respond<'a>(
     suffix: &[u8],
     given: Handed,
 ) -> Response
-    requires { ⌜ Heard (now m) end request signer (now owner) found (now name) key (now subject)
+    requires { ⌜ Heard (now m) end request signer found (now name) key (now subject)
         × Fitting (holderOf who (now suffix)) who pair (now suffix) (now offer) given ⌝ }
-    ensures { λ r. ⌜ ((h : Heard (now (m .entry)) end request signer (now (owner .entry)) found (now (name .entry)) key (now (subject .entry)))
+    ensures { λ r. ⌜ ((h : Heard (now (m .entry)) end request signer found (now (name .entry)) key (now (subject .entry)))
         → Responded (holderOf who (now (suffix .entry))) (givenOf given (now (offer .entry))) (h .message) (now (buf .entry)) (now (buf .exit)) r) ⌝ }
 {
-    let judged = judging::judge(
-        m,
-        signer,
-        owner,
-        request,
-        found,
-        name,
-        key,
-        who,
-        suffix,
-        given,
-    );
+    let judged = judging::judge(m, signer, request, found, name, key, who, suffix, given);
     let d = judged.decision;
     let written = replies::reply(
         buf,
@@ -635,7 +570,6 @@ fn message_row<'a>(
     end: usize,
     request: bool,
     signer: Signer,
-    owner: &[u8; 255],
     found: TkeyFound,
     name: &[u8; 255],
     key: KeyFound,
@@ -644,9 +578,9 @@ fn message_row<'a>(
     given: Handed,
     reply: &mut [u8],
 ) -> Outcome
-    requires { ⌜ Ready t given (now m) (now offer) × Heard (now m) end request signer (now owner) found (now name) key (now subject)
+    requires { ⌜ Ready t given (now m) (now offer) × Heard (now m) end request signer found (now name) key (now subject)
         × (i < t .count) × (p ≡ pairAt t i) ⌝ }
-    ensures { λ r. ⌜ (signedBy (namesOf t) (signerShown (now (m .entry)) (now (owner .entry)) signer) ≡ some i
+    ensures { λ r. ⌜ (signedBy (namesOf t) (signerShown (now (m .entry)) signer) ≡ some i
         → Shows (served t (messageCall (given .now) (given .good) (now (offer .entry)) (length (now (reply .entry))) (now (m .entry))))
         (now (reply .entry)) r (now (reply .exit))) ⌝ }
 {
@@ -661,7 +595,6 @@ fn message_row<'a>(
         end,
         request,
         signer,
-        owner,
         found,
         name,
         key,
@@ -682,7 +615,6 @@ fn message_nobody<'a>(
     end: usize,
     request: bool,
     signer: Signer,
-    owner: &[u8; 255],
     found: TkeyFound,
     name: &[u8; 255],
     key: KeyFound,
@@ -691,8 +623,8 @@ fn message_nobody<'a>(
     given: Handed,
     reply: &mut [u8],
 ) -> Outcome
-    requires { ⌜ Ready t given (now m) (now offer) × Heard (now m) end request signer (now owner) found (now name) key (now subject) ⌝ }
-    ensures { λ r. ⌜ (signedBy (namesOf t) (signerShown (now (m .entry)) (now (owner .entry)) signer) ≡ none
+    requires { ⌜ Ready t given (now m) (now offer) × Heard (now m) end request signer found (now name) key (now subject) ⌝ }
+    ensures { λ r. ⌜ (signedBy (namesOf t) (signerShown (now (m .entry)) signer) ≡ none
         → Shows (served t (messageCall (given .now) (given .good) (now (offer .entry)) (length (now (reply .entry))) (now (m .entry))))
         (now (reply .entry)) r (now (reply .exit))) ⌝ }
 {
@@ -702,14 +634,13 @@ fn message_nobody<'a>(
         next_serial: 0,
         keys: Keys::Empty,
     };
-    let all = &owner[..];
+    let all = &name[..];
     let r = respond(
         reply,
         m,
         end,
         request,
         signer,
-        owner,
         found,
         name,
         key,
@@ -730,7 +661,6 @@ fn message_signed<'a>(
     end: usize,
     request: bool,
     signer: Signer,
-    owner: &[u8; 255],
     found: TkeyFound,
     name: &[u8; 255],
     key: KeyFound,
@@ -739,12 +669,12 @@ fn message_signed<'a>(
     given: Handed,
     reply: &mut [u8],
 ) -> Outcome
-    requires { ⌜ Ready t given (now m) (now offer) × Heard (now m) end request signer (now owner) found (now name) key (now subject) ⌝ }
+    requires { ⌜ Ready t given (now m) (now offer) × Heard (now m) end request signer found (now name) key (now subject) ⌝ }
     ensures { λ r. ⌜ Shows (served t (messageCall (given .now) (given .good) (now (offer .entry)) (length (now (reply .entry))) (now (m .entry))))
         (now (reply .entry)) r (now (reply .exit)) ⌝ }
 {
     let count = t.count;
-    match row_signed(&t.suffixes, &t.lengths, count, signer, owner) {
+    match row_signed(&t.suffixes, &t.lengths, count, m, signer) {
         Found::Row(i) => {
             let p = tables::pair_at(t, i);
             message_row(
@@ -755,7 +685,6 @@ fn message_signed<'a>(
                 end,
                 request,
                 signer,
-                owner,
                 found,
                 name,
                 key,
@@ -771,7 +700,6 @@ fn message_signed<'a>(
             end,
             request,
             signer,
-            owner,
             found,
             name,
             key,
@@ -798,13 +726,12 @@ fn message_read<'a>(
     ensures { λ r. ⌜ Shows (served t (messageCall (given .now) (given .good) (now (offer .entry)) (length (now (reply .entry))) (now (m .entry))))
         (now (reply .entry)) r (now (reply .exit)) ⌝ }
 {
-    let mut owner = [0u8; 255];
     let mut name = [0u8; 255];
     let mut subject = [0u8; 255];
     let sign = seen.sign;
     let only = seen.tkey;
     let one = seen.key;
-    let signer = tsig::signed_by(m, &mut owner, sign);
+    let signer = tsig::signed_by(m, sign);
     let found = tkey::tkey_by(m, &mut name, only);
     let key = tkey::key_by(m, &mut subject, one);
     message_signed(
@@ -813,7 +740,6 @@ fn message_read<'a>(
         end,
         request,
         signer,
-        &owner,
         found,
         &name,
         key,

@@ -6,7 +6,8 @@ ghost use mathlib.Core.Path.{_≡_};
 ghost use Prim.Native.Nat.{ℕ, _+_, _≤_, _<_};
 ghost use lib.ListN.{length};
 ghost use Rattle.model.specs.Octets.{overlay};
-ghost use Rattle.model.specs.Names.{sameName};
+ghost use Rattle.model.specs.Names.{sameName, afterLabel};
+ghost use Rattle.names.specs.Compare.{nameAt, Readable};
 ghost use Rattle.model.specs.Tables.{noPair, pairAt, withPair, withClock, suffixAt, rowNamed, isNone, suffixOk, suffixRule, namesRule, tableRules};
 ghost use Rattle.model.specs.Calls.{emptyTable, withRow};
 ghost use Rattle.tables.specs.Rows.{namesIn, rowOf, Room};
@@ -59,9 +60,9 @@ pub fn with_pair(t: Table, i: usize, p: Pair) -> Table
     if 64 <= i {
         return t;
     }
-    let mut u = t;
-    u.pairs[i] = p;
-    u
+    let mut after = t;
+    after.pairs[i] = p;
+    after
 }
 
 pub fn with_clock(t: Table, time: u64) -> Table
@@ -145,6 +146,27 @@ pub fn find<'a>(
     } else {
         Found::Nowhere
     }
+}
+
+// The first row, of the first `among`, whose suffix follows the first label of the name at `at` of the message m. The name is compared where it lies.
+pub fn find_after<'a>(
+    suffixes: &'a [u8; 8192],
+    lengths: &'a [usize; 64],
+    among: usize,
+    m: &[u8],
+    at: usize,
+) -> Found
+    requires { ⌜ Readable (now m) at ⌝ }
+    ensures { λ r. ⌜ ((count : ℕ) → rowNamed (namesIn count (now (suffixes .entry)) (now (lengths .entry))) among (afterLabel (nameAt (now (m .entry)) at)) ≡ rowOf r) ⌝ }
+{
+    let mut i: usize = 0;
+    while i < among {
+        if names::is_suffix_at(m, at, suffix_at(suffixes, lengths, i)) {
+            return Found::Row(i);
+        }
+        i += 1;
+    }
+    Found::Nowhere
 }
 
 // NAME: a wire name of 3 to 128 octets.

@@ -101,8 +101,7 @@ pub enum KeyFound {
 pub fn layout_of(d: &[u8]) -> Layout
     ensures { λ r. ⌜ LayoutRead (now (d .entry)) r ⌝ }
 {
-    let mut out = [0u8; 255];
-    match names::read_plain(d, &mut out, 0) {
+    match names::skip_plain(d, 0) {
         Got::Bad(_) => Layout::Ill,
         Got::Name { len: _, next } => {
             if d.len() - next < 14 {
@@ -130,12 +129,11 @@ fn old_names(m: &[u8], other: Span) -> OldNames
     requires { ⌜ Within (now m) other ⌝ }
     ensures { λ r. ⌜ NamesRead (now (m .entry)) other r ⌝ }
 {
-    let mut out = [0u8; 255];
     let start = other.from;
     let o = messages::part_of(m, other);
-    match names::read_plain(o, &mut out, 0) {
+    match names::skip_plain(o, 0) {
         Got::Bad(_) => OldNames::Ill,
-        Got::Name { len: _, next } => match names::read_plain(o, &mut out, next) {
+        Got::Name { len: _, next } => match names::skip_plain(o, next) {
             Got::Bad(_) => OldNames::Ill,
             Got::Name { len: _, next: end } => {
                 if end != o.len() {

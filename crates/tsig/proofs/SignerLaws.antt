@@ -20,11 +20,14 @@ use Rattle.tsig.specs.declared.Layout.{Layout}
 use Rattle.tsig.specs.declared.Layout.the-variants.{Ill, Fields}
 use Rattle.tsig.specs.declared.Signer.{Signer}
 use Rattle.tsig.specs.declared.Signer.the-variants.{Ill as IllSigned, Key}
+use Rattle.model.proofs.Records.{Owner, record-owner}
+use Rattle.names.specs.Compare.{nameAt}
+use Rattle.names.proofs.Comparing.{readable, readable-is}
 use Rattle.messages.proofs.Parts.{part-length, part-part}
 use Rattle.tsig.specs.Signature.{laidOut, LayoutRead, FieldsRead, SignerRead, SignatureRead}
 
 module _ (m owner : List ℕ) (place : ℕ) (f : Found) (q : RecordRead m place owner f) where
-  pub s-bad : (p : ℕ) → f ≡ Bad p → SignerRead m place owner IllSigned
+  pub s-bad : (p : ℕ) → f ≡ Bad p → SignerRead m place IllSigned
   s-bad p e = record { says = λ section. simp (q .says section, e); fits = tt }
 
   module _ (len kind class ttl : ℕ) (content : Span) (e : f ≡ At len kind class ttl content) where
@@ -37,15 +40,19 @@ module _ (m owner : List ℕ) (place : ℕ) (f : Found) (q : RecordRead m place 
     bounds : (len ≤ 255) × (kind < 65536) × (class < 65536) × (ttl < 4294967296) × (content .size < 65536) × Within m content
     bounds = rw e at (q .bounds)
 
+    -- the name that was read is the record's owner
+    named : Owner m place (take len owner)
+    named = record-owner m 0 place (held 0) (content .from + content .size) (there 0)
+
     pub s-within : Within m content
     s-within = bounds .5
 
-    pub s-class : (class ≡ 255 → ⊥) → SignerRead m place owner IllSigned
+    pub s-class : (class ≡ 255 → ⊥) → SignerRead m place IllSigned
     unfolding tsigOf anyClass
     s-class h = record { says = λ section. rw (there section, ne-eqb class 255 h) refl; fits = tt }
 
     module _ (c : class ≡ 255) where
-      pub s-ttl : (ttl ≡ 0 → ⊥) → SignerRead m place owner IllSigned
+      pub s-ttl : (ttl ≡ 0 → ⊥) → SignerRead m place IllSigned
       unfolding tsigOf anyClass
       s-ttl h = record { says = λ section. simp (there section, eq-eqb class 255 c, ne-eqb ttl 0 h); fits = tt }
 
@@ -55,7 +62,7 @@ module _ (m owner : List ℕ) (place : ℕ) (f : Found) (q : RecordRead m place 
         unfolding tsigOf anyClass
         signs section = simp (there section, eq-eqb class 255 c, eq-eqb ttl 0 t) (ap wellFormed (n .says (held section) (sym here)))
 
-        pub s-ill : l ≡ Ill → SignerRead m place owner IllSigned
+        pub s-ill : l ≡ Ill → SignerRead m place IllSigned
         s-ill h = record { says = λ section. signs section ∙ ap (λ (x : Layout). wellFormed (laidOut (take len owner) d x)) h; fits = tt }
 
         module _ (next size count : ℕ) (h : l ≡ Fields next size count) where
@@ -65,7 +72,7 @@ module _ (m owner : List ℕ) (place : ℕ) (f : Found) (q : RecordRead m place 
           moved : (x y k : ℕ) → y ≡ content .from + x → x + k ≤ length d → part d x k ≡ part m y k
           moved = part-part m content s-within d here
 
-          pub s-key : (f : TsigFields) → FieldsRead d (content .from) next size count f → SignerRead m place owner (Key len f)
+          pub s-key : (f : TsigFields) → FieldsRead d (content .from) next size count f → SignerRead m place (Key place f)
           s-key f q =
               let b = s-fits in
               let w = s-within in
@@ -74,10 +81,11 @@ module _ (m owner : List ℕ) (place : ℕ) (f : Found) (q : RecordRead m place 
               let x : part d (next + 10) size ≡ part m (content .from + next + 10) size = moved (next + 10) (content .from + next + 10) size (omega arith) (omega arith) in
               let y : part d (next + 10 + size + 6) count ≡ part m (content .from + (next + 10 + size) + 6) count =
               moved (next + 10 + size + 6) (content .from + (next + 10 + size) + 6) count (omega arith) (omega arith) in
+              let z : nameAt m place ≡ take len owner = readable-is m place (take len owner) (named .next) (named .says) in
               record {
-                says = λ section. signs section ∙ simp (h, q .says, a, x, y);
+                says = λ section. signs section ∙ simp (h, q .says, a, x, y, z);
                 fits = (
-                  bounds .0,
+                  readable m place (take len owner) (named .next) (named .says),
                   rw (q .says) (record {
                     algorithm = omega arith;
                     short = omega arith;
@@ -93,9 +101,9 @@ module _ (m owner : List ℕ) (place : ℕ) (f : Found) (q : RecordRead m place 
                 );
               }
 
-module _ (m owner : List ℕ) (k : Kept) (section place : ℕ) (e : k ≡ Once section place) where
-  pub by-other : (section ≡ 3 → ⊥) → SignatureRead m k owner IllSigned
+module _ (m : List ℕ) (k : Kept) (section place : ℕ) (e : k ≡ Once section place) where
+  pub by-other : (section ≡ 3 → ⊥) → SignatureRead m k IllSigned
   by-other h = record { says = simp (e, ne-eqb section 3 h); fits = tt }
 
-  pub by-third : section ≡ 3 → (s : Signer) → SignerRead m place owner s → SignatureRead m k owner s
+  pub by-third : section ≡ 3 → (s : Signer) → SignerRead m place s → SignatureRead m k s
   by-third h s r = record { says = simp (e, eq-eqb section 3 h) (r .says section); fits = r .fits }

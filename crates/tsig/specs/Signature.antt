@@ -3,11 +3,12 @@ use Prim.Native.Nat.{ℕ, _+_, _≤_, _<_, _^_}
 use mathlib.Core.Path.{_≡_}
 use mathlib.Core.Option.{Option, none, some}
 use mathlib.Core.List.{List}
-use lib.ListN.{length, take}
+use lib.ListN.{length}
 use Rattle.model.specs.Octets.{u16At, u48At, part}
 use Rattle.model.specs.Names.{readPlain}
 use Rattle.model.specs.Messages.{Record, recordAt}
 use Rattle.model.specs.Tsig.{Tsig, tsigNamed, Signature, unsigned, misplaced, signed}
+use Rattle.names.specs.Compare.{nameAt, Readable}
 use Rattle.messages.specs.declared.Kept.{Kept}
 use Rattle.messages.specs.Record.{Within, cut}
 use Rattle.messages.specs.Scan.{signedBy, signatureAt}
@@ -94,23 +95,23 @@ pub record Fits (m : List ℕ) (t : TsigFields) : Type 0 where
   pub other : Within m (t .other)
   pub count : t .other .size < 65536
 
--- The signature that the answer says the message m has, where `owner` holds the key's name.
-abbrev pub shown : List ℕ → List ℕ → Signer → Signature
-shown m owner Nobody = unsigned
-shown m owner IllSigned = misplaced
-shown m owner (Key name t) = signed (tsigFrom m (take name owner) t)
+-- The signature that the answer says the message m has: the key's name is the one that stands at its place.
+abbrev pub shown : List ℕ → Signer → Signature
+shown m Nobody = unsigned
+shown m IllSigned = misplaced
+shown m (Key place t) = signed (tsigFrom m (nameAt m place) t)
 
 abbrev pub SignerFits : List ℕ → Signer → Type 0
 SignerFits m Nobody = Unit {0}
 SignerFits m IllSigned = Unit {0}
-SignerFits m (Key name t) = (name ≤ 255) × Fits m t
+SignerFits m (Key place t) = Readable m place × Fits m t
 
 -- The answer is what the record at a place says as a TSIG, in whatever section it stands.
-pub record SignerRead (m : List ℕ) (place : ℕ) (owner : List ℕ) (s : Signer) : Type 0 where
-  pub says : (section : ℕ) → signedBy (recordAt m section place) ≡ shown m owner s
+pub record SignerRead (m : List ℕ) (place : ℕ) (s : Signer) : Type 0 where
+  pub says : (section : ℕ) → signedBy (recordAt m section place) ≡ shown m s
   pub fits : SignerFits m s
 
 -- The answer is the signature that a scan's note stands for.
-pub record SignatureRead (m : List ℕ) (sign : Kept) (owner : List ℕ) (s : Signer) : Type 0 where
-  pub says : signatureAt m sign ≡ shown m owner s
+pub record SignatureRead (m : List ℕ) (sign : Kept) (s : Signer) : Type 0 where
+  pub says : signatureAt m sign ≡ shown m s
   pub fits : SignerFits m s

@@ -29,19 +29,18 @@ pub enum Layout {
     },
 }
 
-// Who signed: nobody; a TSIG that is out of place or ill formed; or a key, whose name has `name` octets in the lent array.
+// Who signed: nobody; a TSIG that is out of place or ill formed; or a key, whose name stands in the message at `place`.
 pub enum Signer {
     Nobody,
     Ill,
-    Key { name: usize, fields: TsigFields },
+    Key { place: usize, fields: TsigFields },
 }
 
 // Where the fields of the TSIG data d lie.
 fn layout_of(d: &[u8]) -> Layout
     ensures { λ r. ⌜ LayoutRead (now (d .entry)) r ⌝ }
 {
-    let mut out = [0u8; 255];
-    match names::read_plain(d, &mut out, 0) {
+    match names::skip_plain(d, 0) {
         Got::Bad(_) => Layout::Ill,
         Got::Name { len: _, next } => {
             if d.len() - next < 10 {
@@ -90,14 +89,14 @@ fn read_fields(d: &[u8], start: usize, next: usize, size: usize, count: usize) -
     }
 }
 
-// The TSIG that the record at `place` holds, the key's name written out into `owner`.
-fn signed_at(m: &[u8], owner: &mut [u8; 255], place: usize) -> Signer
-    ensures { λ r. ⌜ SignerRead (now (m .entry)) place (now (owner .exit)) r ⌝ }
+// The TSIG that the record at `place` holds.
+fn signed_at(m: &[u8], place: usize) -> Signer
+    ensures { λ r. ⌜ SignerRead (now (m .entry)) place r ⌝ }
 {
-    match messages::read_record(m, owner, place) {
+    match messages::skip_record(m, place) {
         Found::Bad(_) => Signer::Ill,
         Found::At {
-            len: name,
+            len: _,
             kind: _,
             class,
             ttl,
@@ -115,22 +114,22 @@ fn signed_at(m: &[u8], owner: &mut [u8; 255], place: usize) -> Signer
                 Layout::Ill => Signer::Ill,
                 Layout::Fields { next, size, count } => {
                     let fields = read_fields(d, start, next, size, count);
-                    Signer::Key { name, fields }
+                    Signer::Key { place, fields }
                 }
             }
         }
     }
 }
 
-// How the message m is signed, by what a scan kept of its TSIG. The key's name is written out into `owner`.
-pub fn signed_by(m: &[u8], owner: &mut [u8; 255], sign: Kept) -> Signer
-    ensures { λ r. ⌜ SignatureRead (now (m .entry)) sign (now (owner .exit)) r ⌝ }
+// How the message m is signed, by what a scan kept of its TSIG.
+pub fn signed_by(m: &[u8], sign: Kept) -> Signer
+    ensures { λ r. ⌜ SignatureRead (now (m .entry)) sign r ⌝ }
 {
     match sign {
         Kept::Never => Signer::Nobody,
         Kept::Once { section, place } => {
             if section == 3 {
-                signed_at(m, owner, place)
+                signed_at(m, place)
             } else {
                 Signer::Ill
             }

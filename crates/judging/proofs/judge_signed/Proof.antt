@@ -2,6 +2,7 @@
 use denote.Ref.{now}
 use mathlib.Core.Path.{refl, sym, _∙_}
 use Rattle.model.specs.Judging.{notAuth, badKey}
+use Rattle.names.specs.Compare.{nameAt}
 use borrow.Author.Needs.{needs}
 use Rattle.judging.proofs.judge_signed.Statement.{statement}
 use Rattle.judging.proofs.judge_signed.Tie as tie
@@ -23,7 +24,7 @@ in-time-requires c κs = search needs
 
 decide-requires : tie.Need-decide-requires
 decide-requires c κs =
-    let pre = c .before .before .before .before .before .before .before .before .before .pre in
+    let pre = c .before .before .before .before .before .before .before .before .pre in
     (pre .0, pre .1, pre .2, rw (c .before .before .before .a .given .1) at (c .before .before .before .before .before .signer-of .ensures .1), pre .3)
 
 unknown-by-requires-2 : tie.Need-unknown-by-requires-2
@@ -33,22 +34,22 @@ returns : tie.Need-returns
 unfolding notAuth badKey
 returns c =
     λ offer is subject.
-    let key = c .before .before .before .signer-of .ensures .0 (c .before .before .before .before .before .before .before .args .number) in
+    let key = c .before .before .before .signer-of .ensures .0 (c .before .before .before .before .before .before .args .number) in
     rw (key, c .before .enum-told .given .1) (c .unknown-by .ensures)
 
 returns-2 : tie.Need-returns-2
 returns-2 c =
     λ offer is subject.
-    let key = c .before .before .before .before .before .before .signer-of .ensures .0 (c .before .before .before .before .before .before .before .before .before .before .args .number) in
+    let key = c .before .before .before .before .before .before .signer-of .ensures .0 (c .before .before .before .before .before .before .before .before .before .args .number) in
     let time = sym (c .before .before .in-time .ensures) ∙ c .before .if1 .taken in
-    let decided = c .decide .ensures offer is (now (c .before .before .before .before .before .before .before .before .before .before .args .signer)) subject in
+    let decided = c .decide .ensures offer is (nameAt (now (c .before .before .before .before .before .before .before .before .before .args .m)) (c .before .before .before .before .before .before .before .before .before .args .place)) subject in
     rw (key, c .before .before .before .before .a .given .1, time, decided) refl
 
 returns-3 : tie.Need-returns-3
 unfolding notAuth badKey
 returns-3 c =
     λ offer is subject.
-    let key = c .before .before .before .before .before .before .signer-of .ensures .0 (c .before .before .before .before .before .before .before .before .before .before .args .number) in
+    let key = c .before .before .before .before .before .before .signer-of .ensures .0 (c .before .before .before .before .before .before .before .before .before .args .number) in
     let time = sym (c .before .before .in-time .ensures) ∙ c .before .if1 .left in
     rw (key, c .before .before .before .before .a .given .1, time) (c .unknown-by2 .ensures)
 

@@ -63,7 +63,9 @@ module _ {t : ℕ} (c : labels-lts.After-n (labels-calls t) (labels-at t) labels
   label-is = c .before .before .item-at .ensures ∙ ap itemOf (c .n .given .1)
 
   label-fits : (c .before .before .before .loop .len + c .n .given .0 .0 + 2 ≤ 255) × (c .before .before .before .loop .place + c .n .given .0 .0 < length (now (c .before .before .before .before .before .args .m)))
-  label-fits = item-fine (now (c .before .before .before .before .before .args .m)) (c .before .before .before .before .before .args .start) (c .before .before .before .loop .place) (c .before .before .before .loop .len) label-is
+  label-fits =
+      let f = item-fine (now (c .before .before .before .before .before .args .m)) (c .before .before .before .before .before .args .start) (c .before .before .before .loop .place) (c .before .before .before .loop .len) label-is in
+      (f .0, f .1)
 
 module _ {t : ℕ} (c : labels-lts.After-target (labels-calls t) (labels-at t) labels.Post labels-Inv-loop labels-μ-loop) where
   points-is : itemAt (now (c .before .before .before .before .before .args .m)) (c .before .before .before .before .before .args .start) (c .before .before .before .loop .place) (c .before .before .before .loop .len) ≡ points (c .target .given .0 .0)

@@ -36,14 +36,14 @@ returns c = sym (apart _ _ (c .if1 .taken))
 loop-holds : tie.Need-loop-holds Inv-loop μ-loop
 loop-holds c = (search needs, refl)
 
-shared-slice-read-lower : tie.Need-shared-slice-read-lower Inv-loop μ-loop
-shared-slice-read-lower c = search needs
+shared-slice-read-p : tie.Need-shared-slice-read-p Inv-loop μ-loop
+shared-slice-read-p c = search needs
+
+shared-slice-read-q : tie.Need-shared-slice-read-q Inv-loop μ-loop
+shared-slice-read-q c = search needs
 
 lower-requires : tie.Need-lower-requires Inv-loop μ-loop
 lower-requires c κs = search needs
-
-shared-slice-read-lower-2 : tie.Need-shared-slice-read-lower-2 Inv-loop μ-loop
-shared-slice-read-lower-2 c = search needs
 
 lower-requires-2 : tie.Need-lower-requires-2 Inv-loop μ-loop
 lower-requires-2 c κs = search needs
@@ -52,7 +52,7 @@ returns-2 : tie.Need-returns-2 Inv-loop μ-loop
 returns-2 c =
     let h = c .before .before .before .before .before .before in
     let a = h .before .before .before .before .args in
-    let l = c .before .before .before .lower .ensures in
+    let l = c .before .before .lower .ensures in
     let r = c .before .lower2 .ensures in
     let step = h .loop .inv .1 ∙ one (a .a .now) (a .b .now) (h .loop .i) (omega arith) (omega arith) in
     sym (step ∙ simp (ne-eqb _ _ (λ e. c .if2 .taken (l ∙ e ∙ sym r))))
@@ -67,7 +67,7 @@ loop-again : tie.Need-loop-again Inv-loop μ-loop
 loop-again c =
     let h = c .before .before .before .before .before .before in
     let a = h .before .before .before .before .args in
-    let l = c .before .before .before .lower .ensures in
+    let l = c .before .before .lower .ensures in
     let r = c .before .lower2 .ensures in
     let step = h .loop .inv .1 ∙ one (a .a .now) (a .b .now) (h .loop .i) (omega arith) (omega arith) in
     (search needs, step ∙ simp (eq-eqb _ _ (sym l ∙ c .if2 .left ∙ r)))
@@ -86,9 +86,9 @@ same-name-spec =
     μ-loop
     returns
     loop-holds
-    shared-slice-read-lower
+    shared-slice-read-p
+    shared-slice-read-q
     lower-requires
-    shared-slice-read-lower-2
     lower-requires-2
     returns-2
     add-i

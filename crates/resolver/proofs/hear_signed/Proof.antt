@@ -27,19 +27,19 @@ refuse-reply-requires-3 : tie.Need-refuse-reply-requires-3
 refuse-reply-requires-3 c κs = search needs
 
 returns : tie.Need-returns
-returns c = by-verdict _ _ _ _ _ _ _ _ (c .before .before .before .before .before .signed-by .ensures) _ _ _ (c .before .before .before .fields .given .1) (not-true _ (c .before .if1 .taken)) (c .refuse-reply3 .ensures)
+returns c = by-verdict _ _ _ _ _ _ _ (c .before .before .before .before .before .signed-by .ensures) _ _ _ (c .before .before .before .fields .given .1) (not-true _ (c .before .if1 .taken)) (c .refuse-reply3 .ensures)
 
 hear-requires : tie.Need-hear-requires
 hear-requires c κs = search needs
 
 returns-2 : tie.Need-returns-2
-returns-2 c = by-nobody _ _ _ _ _ _ _ _ (c .before .before .before .signed-by .ensures) _ (c .before .enum-told .given .1) (c .refuse-reply .ensures)
+returns-2 c = by-nobody _ _ _ _ _ _ _ (c .before .before .before .signed-by .ensures) _ (c .before .enum-told .given .1) (c .refuse-reply .ensures)
 
 returns-3 : tie.Need-returns-3
-returns-3 c = by-ill _ _ _ _ _ _ _ _ (c .before .before .before .signed-by .ensures) _ (c .before .enum-told2 .given .1) (c .refuse-reply2 .ensures)
+returns-3 c = by-ill _ _ _ _ _ _ _ (c .before .before .before .signed-by .ensures) _ (c .before .enum-told2 .given .1) (c .refuse-reply2 .ensures)
 
 returns-4 : tie.Need-returns-4
-returns-4 c = by-signed _ _ _ _ _ _ _ _ (c .before .before .before .before .before .signed-by .ensures) _ _ _ (c .before .before .before .fields .given .1) (not-false _ (c .before .if1 .left)) (c .hear .ensures)
+returns-4 c = by-signed _ _ _ _ _ _ _ (c .before .before .before .before .before .signed-by .ensures) _ _ _ (c .before .before .before .fields .given .1) (not-false _ (c .before .if1 .left)) (c .hear .ensures)
 
 pub hear-signed-spec : {M : Type 1} → statement M
 hear-signed-spec =

@@ -14,7 +14,9 @@ key-by-requires : tie.Need-key-by-requires
 key-by-requires c κs = search needs
 
 message-signed-requires : tie.Need-message-signed-requires
-message-signed-requires c κs = (c .before .before .before .before .before .before .before .before .before .before .before .before .before .pre .0, heard (c .before .before .before .before .before .before .before .before .before .before .before .before .before .pre .1) (c .before .before .before .before .before .before .before .before .before .before .before .before .before .pre .2) (c .before .before .before .before .before .before .before .before .before .before .before .before .before .pre .0 .size) (c .before .before .before .before .before .before .before .before .signed-by .ensures) (c .before .before .before .before .before .before .tkey-by .ensures) (c .before .before .before .before .key-by .ensures))
+message-signed-requires c κs =
+    let pre = c .before .before .before .before .before .before .before .before .before .before .before .pre in
+    (pre .0, heard (pre .1) (pre .2) (pre .0 .size) (c .before .before .before .before .before .before .before .signed-by .ensures) (c .before .before .before .before .before .tkey-by .ensures) (c .before .before .before .key-by .ensures))
 
 same-length : tie.Need-same-length
 same-length c = search needs

@@ -4,8 +4,8 @@ use borrow.Author.Needs.{needs}
 use Rattle.server.proofs.message_row.Statement.{statement}
 use Rattle.server.proofs.message_row.Tie as tie
 
-add-t20 : tie.Need-add-t20
-add-t20 c = search needs
+add-t19 : tie.Need-add-t19
+add-t19 c = search needs
 
 suffix-at-requires : tie.Need-suffix-at-requires
 suffix-at-requires c κs = search needs
@@ -34,4 +34,4 @@ returns c =
 pub message-row-spec : {M : Type 1} → statement M
 message-row-spec =
     tie.close
-    (tie.spec add-t20 suffix-at-requires respond-requires settle-row-requires same-length returns)
+    (tie.spec add-t19 suffix-at-requires respond-requires settle-row-requires same-length returns)

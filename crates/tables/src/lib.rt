@@ -45,23 +45,23 @@ pub fn empty_table(clock: u64) -> Table
     }
 }
 
-pub fn pair_at(t: Table, i: usize) -> Pair
-    ensures { λ r. ⌜ r ≡ pairAt t i ⌝ }
+pub fn pair_at(t: Table, row: usize) -> Pair
+    ensures { λ r. ⌜ r ≡ pairAt t row ⌝ }
 {
-    if 64 <= i {
-        return no_pair();
+    if row < 64 {
+        return t.pairs[row];
     }
-    t.pairs[i]
+    no_pair()
 }
 
-pub fn with_pair(t: Table, i: usize, p: Pair) -> Table
-    ensures { λ r. ⌜ r ≡ withPair t i p ⌝ }
+pub fn with_pair(t: Table, row: usize, p: Pair) -> Table
+    ensures { λ r. ⌜ r ≡ withPair t row p ⌝ }
 {
-    if 64 <= i {
+    if 64 <= row {
         return t;
     }
     let mut after = t;
-    after.pairs[i] = p;
+    after.pairs[row] = p;
     after
 }
 

@@ -7,26 +7,26 @@ use borrow.Author.Needs.{needs}
 use Rattle.tables.proofs.pair_at.Statement.{statement}
 use Rattle.tables.proofs.pair_at.Tie as tie
 
-no-pair-requires : tie.Need-no-pair-requires
-no-pair-requires c κs = search needs
-
-returns : tie.Need-returns
-unfolding pairAt
-returns c =
-    let t = c .before .before .args .t1 in
-    let l : length (t .pairs) ≡ 64 = simp length-map at (c .before .before .good .0 .1 .1 .1 .1 .1 .1 .0 .1 .0 .1) in
-    c .no-pair .ensures ∙ sym (List·getD-eq-default (t .pairs) noPair (omega arith))
-
 mul-result : tie.Need-mul-result
 mul-result c = search needs
 
 element-copy-out-result : tie.Need-element-copy-out-result
 element-copy-out-result c = search needs
 
-returns-2 : tie.Need-returns-2
+returns : tie.Need-returns
 unfolding pairAt noPair
-returns-2 c = refl
+returns c = refl
+
+no-pair-requires : tie.Need-no-pair-requires
+no-pair-requires c κs = search needs
+
+returns-2 : tie.Need-returns-2
+unfolding pairAt
+returns-2 c =
+    let t = c .before .before .args .t1 in
+    let l : length (t .pairs) ≡ 64 = simp length-map at (c .before .before .good .0 .1 .1 .1 .1 .1 .1 .0 .1 .0 .1) in
+    c .no-pair .ensures ∙ sym (List·getD-eq-default (t .pairs) noPair (omega arith))
 
 pub pair-at-spec : {M : Type 1} → statement M
 pair-at-spec =
-    tie.close (tie.spec no-pair-requires returns mul-result element-copy-out-result returns-2)
+    tie.close (tie.spec mul-result element-copy-out-result returns no-pair-requires returns-2)

@@ -13,7 +13,7 @@ unfolding withPair
 returns c =
     let a = c .before .args in
     let l : length (a .t .pairs) ≡ 64 = simp length-map at (c .before .good .0 .1 .1 .1 .1 .1 .1 .0 .1 .0 .1) in
-    let e = set-out (a .t .pairs) (a .i) (a .p) (omega arith) in
+    let e = set-out (a .t .pairs) (a .row) (a .p) (omega arith) in
     rw e refl
 
 mul-p : tie.Need-mul-p

@@ -9,7 +9,7 @@ use crate::wire::Message;
 /// The first time that is refused.
 pub const TIME_LIMIT: u64 = (1 << 48) - (1 << 31);
 
-/// The refusals of 01's table, `as u8` its numbers.
+/// The refusals of 01's table and CR 3's, `as u8` their numbers.
 #[derive(Clone, Copy, Debug, PartialEq, Eq)]
 pub enum Refusal {
     Table = 1,
@@ -27,6 +27,7 @@ pub enum Refusal {
     Term,
     Twin,
     Full,
+    MacSize,
 }
 
 /// What a call returns that is DONE.
@@ -185,7 +186,7 @@ fn change_keys(pair: &mut Pair, outcome: &Outcome, time: u64) {
 }
 
 /// Refuses unless something holds.
-fn ensure(holds: bool, refusal: Refusal) -> Result<(), Refusal> {
+pub(crate) fn ensure(holds: bool, refusal: Refusal) -> Result<(), Refusal> {
     holds.then_some(()).ok_or(refusal)
 }
 
@@ -200,7 +201,7 @@ fn open(table: &mut Table, time: u64) -> Result<(), Refusal> {
 }
 
 /// 01, number 4.
-fn check_size(octets: &[u8]) -> Result<(), Refusal> {
+pub(crate) fn check_size(octets: &[u8]) -> Result<(), Refusal> {
     ensure((12..=65_535).contains(&octets.len()), Refusal::Size)
 }
 

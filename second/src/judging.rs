@@ -124,7 +124,7 @@ fn authenticate<'a>(
 /// 01 "Judging" steps 4 and 5.
 fn check_signature(case: &Case, key: &Key, tsig: &Tsig) -> Result<(), Denial> {
     let output = key.algorithm.output();
-    if tsig.mac_size > output || tsig.mac_size < output / 2 {
+    if tsig.mac.len() > output || tsig.mac.len() < output / 2 {
         return deny(FORMERR, 0);
     }
     if !case.good {

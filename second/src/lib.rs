@@ -9,7 +9,8 @@
 //! only then changes keys (`calls`).
 //!
 //! `resolver` is the other half of the protocol (CR 1): it writes the requests
-//! and reads the replies.
+//! and reads the replies. `signing` has the octets under a MAC, and puts a TSIG
+//! on and takes it off (CR 3); it knows no key.
 #![forbid(unsafe_code)]
 
 pub mod calls;
@@ -18,8 +19,10 @@ pub mod names;
 mod reply;
 pub mod resolver;
 pub mod script;
+pub mod signing;
 pub mod table;
 mod wire;
 
 pub use calls::{enrol, issue, look, message, new, revoke, Done, Refusal};
 pub use table::{Algorithm, Key, Keys, Pair, Table};
+pub use wire::Tsig;

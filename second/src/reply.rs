@@ -79,13 +79,20 @@ fn header(message: &Message, rcode: u16, answers: u16, additional: u16) -> [u8; 
     header
 }
 
-/// 01, number 8: writes the pieces one after another, or nothing at all.
-fn write(pieces: &[&[u8]], reply: &mut [u8]) -> Result<usize, Refusal> {
+/// 01, number 8: writes the pieces one after another as a message, or nothing
+/// at all.
+pub fn write(pieces: &[&[u8]], reply: &mut [u8]) -> Result<usize, Refusal> {
+    let most = reply.len().min(65_535);
+    lay(pieces, &mut reply[..most])
+}
+
+/// The same for octets that are no message and may be more.
+pub fn lay(pieces: &[&[u8]], buffer: &mut [u8]) -> Result<usize, Refusal> {
     let length = pieces.iter().map(|piece| piece.len()).sum();
-    if length > 65_535 || length > reply.len() {
+    if length > buffer.len() {
         return Err(Refusal::Room);
     }
-    let mut rest = reply;
+    let mut rest = buffer;
     for piece in pieces {
         let (place, after) = rest.split_at_mut(piece.len());
         place.copy_from_slice(piece);

@@ -5,12 +5,16 @@ use std::io::{self, BufRead, Read, Write};
 
 use crate::calls::{self, Done, Refusal};
 use crate::resolver::{self, Asked, Resolver, Which, Wish, Written};
+use crate::signing::{self, Fields};
 use crate::table::{Algorithm, Key, Table};
+use crate::wire::Tsig;
 
 /// The most octets of a line, its newline not counted.
 pub const LONGEST_LINE: usize = 200_000;
 /// The most room that a reply or a request can use.
 const MOST_ROOM: usize = 65_535;
+/// The most room that is lent for the octets of a signing line.
+const MOST_SIGNING_ROOM: usize = 100_000;
 /// The most octets of a name that the resolver is given to hold.
 const LONGEST_HELD: usize = 255;
 
@@ -21,7 +25,7 @@ pub struct Runner {
     table: Table,
     resolver: Resolver,
     line: u64,
-    /// What is lent for replies and requests.
+    /// What is lent for replies, requests and the octets of signing.
     buffer: Vec<u8>,
 }
 
@@ -38,7 +42,7 @@ impl Runner {
             table: Table::default(),
             resolver: Resolver::default(),
             line: 0,
-            buffer: vec![0; MOST_ROOM],
+            buffer: vec![0; MOST_SIGNING_ROOM],
         }
     }
 
@@ -58,8 +62,8 @@ impl Runner {
             return self.too_long(out);
         }
         self.line += 1;
-        // No line has more than eight words.
-        let words: Vec<&[u8]> = line.splitn(9, |&octet| octet == b' ').collect();
+        // No line has more than eleven words.
+        let words: Vec<&[u8]> = line.splitn(12, |&octet| octet == b' ').collect();
         if line == b"list" {
             print_listing(&self.table, out);
         } else if line == b"keys" {
@@ -68,6 +72,10 @@ impl Runner {
             print_result(result, &self.buffer, out);
         } else if let Some(result) = self.write_request(&words) {
             print_written(result, &self.buffer, out);
+        } else if let Some(result) = self.sign(&words) {
+            print_signing(result, &self.buffer, out);
+        } else if let Some(message) = read_back_line(&words) {
+            print_tsig(signing::read_back(&message), out);
         } else if self.tell_resolver(&words, out).is_none() {
             print_bad_line(self.line, out);
         }
@@ -107,7 +115,7 @@ impl Runner {
                 is_good(verdict)?,
                 &octets(message)?,
                 &octets(offer)?,
-                lent(&mut self.buffer, room)?,
+                lent(&mut self.buffer, room, MOST_ROOM)?,
             ),
             _ => return None,
         })
@@ -128,11 +136,53 @@ impl Runner {
                     expiration: u32::try_from(number(expiration)?).ok()?,
                     key_record: &octets(key_record)?,
                 };
-                resolver.renewal(id_number(id)?, &wish, lent(buffer, room)?)
+                resolver.renewal(short(id)?, &wish, lent(buffer, room, MOST_ROOM)?)
             }
-            [b"adoption", id, room] => resolver.adoption(id_number(id)?, lent(buffer, room)?),
-            [b"deletion", id, room] => resolver.deletion(id_number(id)?, lent(buffer, room)?),
+            [b"adoption", id, room] => {
+                resolver.adoption(short(id)?, lent(buffer, room, MOST_ROOM)?)
+            }
+            [b"deletion", id, room] => {
+                resolver.deletion(short(id)?, lent(buffer, room, MOST_ROOM)?)
+            }
             _ => return None,
+        })
+    }
+
+    /// SCRIPT.md, the signing calls' lines: those that write octets.
+    fn sign(&mut self, words: &[&[u8]]) -> Option<Result<usize, Refusal>> {
+        let buffer = &mut self.buffer;
+        let (call, message, fields, room, mac) = match *words {
+            [b"remove", message, room] => {
+                let message = octets(message)?;
+                let buffer = lent(buffer, room, MOST_SIGNING_ROOM)?;
+                return Some(signing::remove(&message, buffer));
+            }
+            [call @ b"digest-request", message, ref fields @ .., room] => {
+                (call, message, fields, room, &b"-"[..])
+            }
+            [call @ (b"digest-reply" | b"finish"), message, ref fields @ .., room, mac] => {
+                (call, message, fields, room, mac)
+            }
+            _ => return None,
+        };
+        let &[name, algorithm, signed, fudge, id, error, other] = fields else {
+            return None;
+        };
+        let fields = Fields {
+            name: &octets(name)?,
+            algorithm: &octets(algorithm)?,
+            time_signed: number(signed)?,
+            fudge: short(fudge)?,
+            original_id: short(id)?,
+            error: short(error)?,
+            other_data: &octets(other)?,
+        };
+        let (message, mac) = (octets(message)?, octets(mac)?);
+        let buffer = lent(buffer, room, MOST_SIGNING_ROOM)?;
+        Some(match call {
+            b"digest-request" => signing::digest_request(&message, &fields, buffer),
+            b"digest-reply" => signing::digest_reply(&message, &fields, &mac, buffer),
+            _ => signing::finish(&message, &fields, &mac, buffer),
         })
     }
 
@@ -150,7 +200,7 @@ impl Runner {
                 print(out, format_args!("0\n"));
             }
             [b"note", id] => {
-                self.resolver.note(id_number(id)?);
+                self.resolver.note(short(id)?);
                 print(out, format_args!("0\n"));
             }
             [b"reply", verdict, message] => {
@@ -201,15 +251,23 @@ fn number(word: &[u8]) -> Option<u64> {
     word.iter().try_fold(0, add)
 }
 
-/// SCRIPT.md: a message ID is below 65,536.
-fn id_number(word: &[u8]) -> Option<u16> {
+/// SCRIPT.md: a message ID, a fudge and an error are below 65,536.
+fn short(word: &[u8]) -> Option<u16> {
     u16::try_from(number(word)?).ok()
 }
 
-/// SCRIPT.md: room above 65,535 does as 65,535 does.
-fn lent<'a>(buffer: &'a mut [u8], room: &[u8]) -> Option<&'a mut [u8]> {
-    let room = usize::try_from(number(room)?).unwrap_or(MOST_ROOM);
-    Some(&mut buffer[..room.min(MOST_ROOM)])
+/// SCRIPT.md: room above the most that is lent does as the most does.
+fn lent<'a>(buffer: &'a mut [u8], room: &[u8], most: usize) -> Option<&'a mut [u8]> {
+    let room = usize::try_from(number(room)?).unwrap_or(most);
+    Some(&mut buffer[..room.min(most)])
+}
+
+/// SCRIPT.md: the message of a `read-back` line.
+fn read_back_line(words: &[&[u8]]) -> Option<Vec<u8>> {
+    match *words {
+        [b"read-back", message] => octets(message),
+        _ => None,
+    }
 }
 
 /// SECOND.md: the verdict, in lower case only.
@@ -295,6 +353,32 @@ fn print_written(result: Result<Written, resolver::Refusal>, buffer: &[u8], out:
         }
         Err(refusal) => print(out, format_args!("{} 0 - -\n", refusal as u8)),
     }
+}
+
+/// SCRIPT.md: NUMBER LENGTH OCTETS. A refusal has all else 0 or `-`.
+fn print_signing(result: Result<usize, Refusal>, buffer: &[u8], out: &mut Vec<u8>) {
+    let number = result.err().map_or(0, |refusal| refusal as u8);
+    let length = result.unwrap_or_default();
+    print(out, format_args!("{number} {length} "));
+    print_octets(&buffer[..length], out);
+    out.push(b'\n');
+}
+
+/// SCRIPT.md: NUMBER NAME ALGORITHM SIGNED FUDGE MAC ID ERROR OTHER.
+fn print_tsig(result: Result<Tsig, Refusal>, out: &mut Vec<u8>) {
+    let tsig = match result {
+        Ok(tsig) => tsig,
+        Err(refusal) => return print(out, format_args!("{} - - 0 0 - 0 0 -\n", refusal as u8)),
+    };
+    print(out, format_args!("0 "));
+    print_octets(tsig.name.octets(), out);
+    out.push(b' ');
+    print_octets(tsig.algorithm, out);
+    print(out, format_args!(" {} {} ", tsig.time_signed, tsig.fudge));
+    print_octets(tsig.mac, out);
+    print(out, format_args!(" {} {} ", tsig.original_id, tsig.error));
+    print_octets(tsig.other_data, out);
+    out.push(b'\n');
 }
 
 /// SCRIPT.md: one of the resolver's keys.

@@ -257,6 +257,11 @@ impl<'a> Message<'a> {
         }
     }
 
+    /// CR 3: whether a TSIG stands anywhere, well placed or not.
+    pub fn has_tsig(&self) -> bool {
+        !matches!(self.tsigs, Found::None)
+    }
+
     /// 01 "Judging" step 6: exactly one TKEY record in the whole message, in
     /// the additional section and well formed. Other data can be ill formed in
     /// modes 4098 and 4100 only (ruling 5).
@@ -281,16 +286,20 @@ impl<'a> Message<'a> {
     }
 }
 
-/// A TSIG record (RFC 8945 §4.2), as far as judging wants it.
+/// A TSIG record (RFC 8945 §4.2).
 #[derive(Clone, Debug)]
 pub struct Tsig<'a> {
+    /// Where the record begins in its message.
+    pub place: usize,
     /// The owner name, written out.
     pub name: Name,
     pub algorithm: &'a [u8],
     pub time_signed: u64,
     pub fudge: u16,
-    pub mac_size: usize,
+    pub mac: &'a [u8],
+    pub original_id: u16,
     pub error: u16,
+    pub other_data: &'a [u8],
 }
 
 impl<'a> Tsig<'a> {
@@ -300,17 +309,17 @@ impl<'a> Tsig<'a> {
             return None;
         }
         let mut data = Cursor::new(record.data);
-        let mut tsig = Tsig {
+        let tsig = Tsig {
+            place: record.owner,
             name: record.owner()?,
             algorithm: data.plain_name()?,
             time_signed: data.u48()?,
             fudge: data.u16()?,
-            mac_size: data.sized()?.len(),
-            error: 0,
+            mac: data.sized()?,
+            original_id: data.u16()?,
+            error: data.u16()?,
+            other_data: data.sized()?,
         };
-        let _original_id = data.u16()?;
-        tsig.error = data.u16()?;
-        let _other_data = data.sized()?;
         data.at_end().then_some(tsig)
     }
 }

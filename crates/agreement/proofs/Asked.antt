@@ -14,7 +14,7 @@ use Rattle.model.specs.Tsig.{Tsig, signed, tsigType, isTsig, anyClass, lastReco
 use Rattle.model.specs.Tkey.{Tkey, Old, tkeyType, keyType, oldOf, asksTkey, tkeyRequest, onlyTkey, onlyKey}
 use Rattle.model.specs.Replies.{recordOctets, tkeyData, tkeyRecord}
 use Rattle.model.specs.Resolver.{requestOctets}
-use Rattle.model.specs.Exchange.{Stamp, tsigData, finished}
+use Rattle.model.specs.Signing.{Stamp, tsigData, finished}
 use Rattle.printed.specs.Printed.{Entry, AllRead, allOctets, messageOctets, messageShown}
 use Rattle.printed.proofs.Names.{algorithm-wire}
 use Rattle.printed.proofs.Records.{entry, record-read, KeyEntry}

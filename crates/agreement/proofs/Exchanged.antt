@@ -23,7 +23,8 @@ use Rattle.model.specs.Judging.{Holder, Given, adoptedOf, heldSuffix, heldPair,
 use Rattle.model.specs.Replies.{replyOf, errorOf}
 use Rattle.model.specs.Calls.{DONE, Result, refusal, unchanged, sizeOk, roomFor, gate, timeOf, signedBy, replyTo, holderAt, replied, served as served-by, called}
 use Rattle.model.specs.Resolver.{nameOf, Writing, readReply}
-use Rattle.model.specs.Exchange.{stamped, finished, Turn, signerKey, replyOr, writingIn, signerIn, requestIn, servedIn, replyIn, heardIn, Sides, exchanged, SameKey, Agree, InTime, Room}
+use Rattle.model.specs.Signing.{finished}
+use Rattle.model.specs.Exchange.{stamped, Turn, signerKey, replyOr, writingIn, signerIn, requestIn, servedIn, replyIn, heardIn, Sides, exchanged, SameKey, Agree, InTime, Room}
 use Rattle.model.proofs.Tests.{both}
 use Rattle.model.proofs.Rows.{suffix}
 use Rattle.model.proofs.CallLaws.{passes-first, message-room, message-done}

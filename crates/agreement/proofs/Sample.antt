@@ -10,7 +10,8 @@ use Rattle.model.specs.Names.{keyName}
 use Rattle.model.specs.Messages.{Message, readMessage}
 use Rattle.model.specs.Tkey.{tkeyRequest}
 use Rattle.model.specs.Resolver.{LOST, WRONGID, UNSIGNED, FORMAT, ROOM, NOKEY, nameOf, usable, adoptedKey, offeredKey, opened, noted, closed, unwritten, sent, requestOctets, oldKey, renewalOctets, adoptionOctets, deletionOctets, isKeyRecord, writtenRenewal, writtenAdoption, writtenDeletion, answerOther, answerKey, answerTimes, answerOf, answers, onlyAnswer, keyless, unheard, rcodeOf, accepted, heard, readReply}
-use Rattle.model.specs.Exchange.{tsigData, finished, wrote, stamped, writingIn, signerIn, requestIn, servedIn, replyIn, heardIn, Sides, exchanged, Clean, AllClean, Agree, InTime, Room}
+use Rattle.model.specs.Signing.{tsigData, finished}
+use Rattle.model.specs.Exchange.{wrote, stamped, writingIn, signerIn, requestIn, servedIn, replyIn, heardIn, Sides, exchanged, Clean, AllClean, Agree, InTime, Room}
 use Rattle.model.proofs.Requests.{suffix}
 use Rattle.model.proofs.Running.{after}
 use Rattle.agreement.specs.Sample.{table, start, renews, adopts, asks, lost, again, first, second, endsWith}

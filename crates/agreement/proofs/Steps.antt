@@ -27,7 +27,8 @@ use Rattle.model.specs.Judging.{Given, adoptedOf, waitingOf, changed}
 use Rattle.model.specs.Replies.{heading, tkeyRecord, repeated, rcodeReply, tkeyReply, replyOf, errorOf}
 use Rattle.model.specs.Calls.{sizeOk, holderAt}
 use Rattle.model.specs.Resolver.{nameOf, adoptedKey, offeredKey, opened, closed, TkeyAnswer, isMode, movedBy, rcodeOf, readReply}
-use Rattle.model.specs.Exchange.{Stamp, stamped, finished, Sides, SameKey, SameAdopted, OfferedWaits, Agree}
+use Rattle.model.specs.Signing.{Stamp, finished}
+use Rattle.model.specs.Exchange.{stamped, Sides, SameKey, SameAdopted, OfferedWaits, Agree}
 use Rattle.model.proofs.Tests.{and-false}
 use Rattle.model.proofs.CallLaws.{same-row}
 use Rattle.printed.specs.Printed.{Entry, allOctets, messageOctets, messageShown}

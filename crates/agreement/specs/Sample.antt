@@ -17,7 +17,8 @@ use Rattle.model.specs.Tables.{pairAt}
 use Rattle.model.specs.Calls.{emptyTable}
 use Rattle.model.specs.Runs.{enrol}
 use Rattle.model.specs.Resolver.{nameOf}
-use Rattle.model.specs.Exchange.{Stamp, Ask, renewal, adoption, ordinary, Turn, writingIn, servedIn, Sides, exchanged}
+use Rattle.model.specs.Signing.{Stamp}
+use Rattle.model.specs.Exchange.{Ask, renewal, adoption, ordinary, Turn, writingIn, servedIn, Sides, exchanged}
 use Rattle.model.proofs.Requests.{suffix, header, rootQuery, keyRecord}
 use Rattle.model.proofs.Running.{after}
 

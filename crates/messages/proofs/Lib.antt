@@ -2,6 +2,8 @@ pub mod Laws
 pub mod QuestionLaws
 pub mod Loops
 pub mod Forward
+pub mod Place
 pub mod Scanning
 pub mod Parts
 pub mod Answers
+pub mod Sizes

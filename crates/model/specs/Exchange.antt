@@ -5,7 +5,7 @@ use mathlib.Core.Path.{_≡_}
 use mathlib.Core.Bool.{Bool, true, false}
 use mathlib.Core.Option.{Option, none, some}
 use mathlib.Core.List.{List, [], _∷_, _++_}
-use lib.ListN.{length, take, drop}
+use lib.ListN.{length}
 use Rattle.model.specs.declared.Algorithm.{Algorithm}
 use Rattle.model.specs.declared.Key.{Key}
 use Rattle.model.specs.declared.Keys.the-variants.{Adopted}
@@ -15,39 +15,15 @@ use Rattle.model.specs.declared.Resolver.{Resolver}
 use Rattle.model.specs.declared.SignWith.{SignWith}
 use Rattle.model.specs.declared.SignWith.the-variants as SignWith
 use Rattle.model.specs.declared.Heard.{Heard}
-use Rattle.model.specs.Octets.{be16, be48, u16At, reads}
+use Rattle.model.specs.Octets.{reads}
 use Rattle.model.specs.Names.{algorithmName, sameName, keyName, outputOf}
 use Rattle.model.specs.Messages.{Message, readMessage}
-use Rattle.model.specs.Tsig.{tsigType, anyClass}
 use Rattle.model.specs.Tkey.{tkeyRequest}
-use Rattle.model.specs.Replies.{recordOctets}
 use Rattle.model.specs.Tables.{pairAt, namesOf, suffixAt, tableRules}
 use Rattle.model.specs.Judging.{adoptedOf, waitingOf, macFits, apart}
 use Rattle.model.specs.Calls.{ROOM, Result, timeFits, timeGoesOn, sizeOk, offerOk, message, called}
+use Rattle.model.specs.Signing.{Stamp, finished}
 use Rattle.model.specs.Resolver.{Writing, nameOf, adoptedKey, offeredKey, writtenRenewal, writtenAdoption, writtenDeletion, noted, readReply}
-
--- ── A TSIG appended (RFC 8945, 4.2 and 5.1) ─────────────────────────────────────────────────────────────────────────
-
--- What a TSIG says besides its owner name.
-pub record Stamp : Type 0 where
-  pub algorithm : List ℕ
-  pub signed : ℕ
-  pub fudge : ℕ
-  pub mac : List ℕ
-  pub originalId : ℕ
-  pub error : ℕ
-  pub other : List ℕ
-
-unfoldable pub tsigData : Stamp → List ℕ
-tsigData t =
-    t .algorithm
-    ++ (be48 (t .signed)
-    ++ (be16 (t .fudge)
-    ++ (be16 (length (t .mac)) ++ (t .mac ++ (be16 (t .originalId) ++ (be16 (t .error) ++ (be16 (length (t .other)) ++ t .other)))))))
-
--- The TSIG last, and one more additional record counted.
-unfoldable pub finished : List ℕ → List ℕ → Stamp → List ℕ
-finished m name t = take 10 m ++ (be16 (u16At m 10 + 1) ++ (drop 12 m ++ recordOctets name tsigType anyClass 0 (tsigData t)))
 
 -- ── What the resolver asks ──────────────────────────────────────────────────────────────────────────────────────────
 

@@ -1,5 +1,6 @@
-// Replays a script of calls: each line of standard input is done to the table, or to the resolver, and its result printed (docs/SCRIPT.md). The lines mean what
-// the crates lines and resolver_lines prove; here they are taken from the input and their text is written, in constant memory.
+// Replays a script of calls: each line of standard input is done to the table, to the resolver, or, a signing call's, to octets alone, and its result printed
+// (docs/SCRIPT.md). The lines mean what the crates lines, resolver_lines and signing_lines prove; here they are taken from the input and their text is written, in
+// constant memory.
 use libc::STDIN_FILENO;
 use libc::STDOUT_FILENO;
 use model::Resolver;
@@ -7,6 +8,7 @@ use model::Table;
 ghost use mathlib.Core.Path.{_≡_};
 ghost use Prim.Native.Nat.{_≤_, _<_};
 ghost use lib.ListN.{length};
+ghost use Rattle.signing_lines.specs.Line.{Lent as LentOut};
 ghost use Rattle.replay.specs.Lent.{Lent};
 
 // The run so far: the table and the resolver, the number of the line that is being read, and whether all that was printed could be written.
@@ -77,6 +79,65 @@ fn end_resolver_line<'a>(
     }
 }
 
+// Does and prints a line that is a signing call's: whether it could be written.
+fn print_signing_line<'a>(
+    number: u64,
+    line: &[u8],
+    message: &'a mut [u8],
+    name: &'a mut [u8],
+    algorithm: &'a mut [u8],
+    other: &'a mut [u8],
+    mac: &'a mut [u8],
+    out: &mut [u8],
+    text: &mut [u8],
+) -> bool
+    requires { ⌜ (100000 ≤ length (now message)) × (100000 ≤ length (now name)) × (100000 ≤ length (now algorithm)) × (100000 ≤ length (now other))
+        × (100000 ≤ length (now mac)) × LentOut (length (now out)) (length (now text)) ⌝ }
+{
+    let n = signing_lines::signing_line(
+        number,
+        line,
+        message,
+        name,
+        algorithm,
+        other,
+        mac,
+        out,
+        text,
+    );
+    io::write_all(STDOUT_FILENO, &text[..n])
+}
+
+// The same, with buffers of its own: as many as such a line has words of octets, one for what the call writes, and one for the text.
+fn end_signing_line(r: Run, line: &[u8]) -> Run {
+    let mut message = [0u8; 100000];
+    let mut name = [0u8; 100000];
+    let mut algorithm = [0u8; 100000];
+    let mut other = [0u8; 100000];
+    let mut mac = [0u8; 100000];
+    let mut out = [0u8; 100000];
+    let mut text = [0u8; 300000];
+    let ok = print_signing_line(
+        r.number,
+        line,
+        &mut message,
+        &mut name,
+        &mut algorithm,
+        &mut other,
+        &mut mac,
+        &mut out,
+        &mut text,
+    );
+    let t = r.table;
+    let s = r.resolver;
+    Run {
+        table: t,
+        resolver: s,
+        number: next_number(r.number),
+        ok,
+    }
+}
+
 // Does and prints a line.
 fn end_line<'a>(
     r: Run,
@@ -88,6 +149,9 @@ fn end_line<'a>(
 ) -> Run
     requires { ⌜ Lent (length (now octets)) (length (now offer)) (length (now reply)) (length (now text)) ⌝ }
 {
+    if signing_lines::is_signing(line) {
+        return end_signing_line(r, line);
+    }
     if resolver_script::is_resolvers(line) {
         return end_resolver_line(r, line, octets, offer, reply, text);
     }

@@ -3,9 +3,9 @@ use Prim.Native.Nat.{ℕ, _%_, _≤_, _<_}
 use mathlib.Core.Path.{_≡_, refl, ap, sym, _∙_}
 use mathlib.Core.Bool.{Bool, true, false}
 use mathlib.Core.List.{List}
-use lib.Dec.{eqb, leb}
+use lib.Dec.{eqb}
 use lib.ListN.{length, take, getD}
-use borrow.Author.Tests.{eq-eqb, ne-eqb, le-leb, lt-leb}
+use borrow.Author.Tests.{eq-eqb, ne-eqb}
 use Rattle.model.specs.declared.Algorithm.{Algorithm}
 use Rattle.model.specs.declared.Named.{Named}
 use Rattle.model.specs.declared.Named.the-variants.{Known, Unknown}
@@ -22,7 +22,6 @@ use Rattle.model.specs.Tsig.{signature}
 use Rattle.model.specs.Judging.{partialRevoke}
 use Rattle.model.specs.Calls.{sizeOk}
 use Rattle.model.specs.Resolver.{LOST, WRONGID, UNSIGNED, FORMAT, TkeyAnswer, onlyAnswer, answerIn, offeredBy, renewedIn, moved, isMode, movedBy, closed, unheard, rcodeOf, accepted, heard, readReply}
-use Rattle.model.proofs.Tests.{and-false}
 use Rattle.names.specs.Compare.{nameAt}
 use Rattle.messages.specs.declared.Kept.{Kept}
 use Rattle.messages.specs.declared.Seen.{Seen}
@@ -31,6 +30,7 @@ use Rattle.messages.specs.declared.Outline.the-variants.{Bad, Whole}
 use Rattle.messages.specs.Record.{Within}
 use Rattle.messages.specs.Scan.{signatureAt, WholeRead, Scanned}
 use Rattle.messages.specs.Answers.{AnswersRead}
+use Rattle.messages.proofs.Sizes.{size-short, size-long, size-fits}
 use Rattle.tsig.specs.declared.TsigFields.{TsigFields}
 use Rattle.tsig.specs.declared.Signer.{Signer}
 use Rattle.tsig.specs.declared.Signer.the-variants.{Nobody, Ill, Key}
@@ -160,25 +160,19 @@ module _ (s : Resolver) (good : Bool) (m : List ℕ) (r : Heard) where
   bad-size h i = i ∙ rw h refl
 
   pub too-short : length m < 12 → r ≡ unheard s 4 → r ≡ readReply s good m
-  unfolding sizeOk
-  too-short h = bad-size (rw (lt-leb 12 (length m) h) refl)
+  too-short h = bad-size (size-short m h)
 
   pub too-long : 65535 < length m → r ≡ unheard s 4 → r ≡ readReply s good m
-  unfolding sizeOk
-  too-long h = bad-size (and-false (leb 12 (length m)) (lt-leb (length m) 65535 h))
+  too-long h = bad-size (size-long m h)
 
   module _ (low : 12 ≤ length m) (high : length m ≤ 65535) where
-    fits : sizeOk m ≡ true
-    unfolding sizeOk
-    fits = rw (le-leb 12 (length m) low, le-leb (length m) 65535 high) refl
-
     pub ill-formed : (o : Outline) → Scanned m o → (p : ℕ) → o ≡ Bad p → r ≡ unheard s 4 → r ≡ readReply s good m
     unfolding readReply FORMAT
-    ill-formed o q p e i = let h : readMessage m ≡ stops p = rw e at q in i ∙ rw (fits, h) refl
+    ill-formed o q p e i = let h : readMessage m ≡ stops p = rw e at q in i ∙ rw (size-fits m low high, h) refl
 
     pub well-formed : (o : Outline) → Scanned m o → (end : ℕ) (request : Bool) (seen : Seen) → o ≡ Whole end request seen
         → HearsAwaited s good m end seen r → r ≡ readReply s good m
     unfolding readReply
     well-formed o q end request seen e i =
         let w : WholeRead m end request seen = rw e at q in
-        i .says request w ∙ rw (fits, w .says) refl
+        i .says request w ∙ rw (size-fits m low high, w .says) refl

@@ -15,8 +15,6 @@ use Rattle.words.specs.declared.Octets.the-variants as Octets
 use Rattle.resolver_script.specs.declared.ResolverRan.{ResolverRan}
 use Rattle.resolver_script.specs.declared.Event.{Event}
 use Rattle.resolver_script.specs.declared.Event.the-variants.{Table, Misread, Done, Sent, Heard, Keys}
-use Rattle.resolver_script.specs.declared.Id.{Id}
-use Rattle.resolver_script.specs.declared.Id.the-variants as Id
 use Rattle.resolver_script.specs.declared.Time.{Time}
 use Rattle.resolver_script.specs.declared.Time.the-variants as Time
 use Rattle.resolver_script.specs.declared.Asked.{Asked}
@@ -73,10 +71,6 @@ ranSent w = record { event = Sent (w .number) (w .length) (w .signer); state = w
 
 abbrev pub ranHeard : model.Heard → ResolverRan
 ranHeard h = record { event = Heard (h .number) (h .due); state = h .state }
-
-abbrev pub idShown : Id → Option ℕ
-idShown (Id.Is n) = some n
-idShown Id.None = none
 
 abbrev pub timeShown : Time → Option ℕ
 timeShown (Time.Is n) = some n

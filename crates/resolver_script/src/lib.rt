@@ -9,6 +9,7 @@ use model::ResolverKey;
 use model::Sending;
 use model::SignWith;
 use script::Verdict;
+use words::Id;
 use words::Number;
 use words::Octets;
 ghost use mathlib.Core.Path.{_≡_};
@@ -16,9 +17,9 @@ ghost use mathlib.Core.List.{List};
 ghost use mathlib.Core.Option.{none, some};
 ghost use Prim.Native.Nat.{ℕ, _≤_, _*_};
 ghost use lib.ListN.{length};
-ghost use Rattle.model.specs.Halves.{idAt, timeAt, algorithmAt, nameAt, saidHold, saidRenewal, saidAdoption, saidDeletion, saidNote, saidReply, keys, table, resolver, whoseBy, whose, handed, holder, newcomer, knownOf};
+ghost use Rattle.model.specs.Halves.{timeAt, algorithmAt, nameAt, saidHold, saidRenewal, saidAdoption, saidDeletion, saidNote, saidReply, keys, table, resolver, whoseBy, whose, handed, holder, newcomer, knownOf};
 ghost use Rattle.words.specs.Reads.{OctetsRead};
-ghost use Rattle.resolver_script.specs.Ran.{idShown, timeShown, NameFits, ranDone, ranSent, ranHeard, oursOf, RanFor, askedAs};
+ghost use Rattle.resolver_script.specs.Ran.{timeShown, NameFits, ranDone, ranSent, ranHeard, oursOf, RanFor, askedAs};
 
 // What a line did: nothing, as it is the table's, or as it does not read; a line that prints 0; a writing call; the reading call; or it asks for the keys.
 pub enum Event {
@@ -43,12 +44,7 @@ pub struct ResolverRan {
     pub state: Resolver,
 }
 
-// What a word says as an ID, and as a time.
-enum Id {
-    Is(u16),
-    None,
-}
-
+// What a word says as a time.
 enum Time {
     Is(u32),
     None,
@@ -67,18 +63,6 @@ enum Asked {
 }
 
 // ── Words ───────────────────────────────────────────────────────────────────────────────────────────────────────────
-
-fn id_at(line: &[u8], i: usize) -> Id
-    ensures { λ r. ⌜ idAt (now (line .entry)) i ≡ idShown r ⌝ }
-{
-    let Number::Is(n) = words::number_at(line, i) else {
-        return Id::None;
-    };
-    if n < 65536 {
-        return Id::Is(n as u16);
-    }
-    Id::None
-}
 
 fn time_at(line: &[u8], i: usize) -> Time
     ensures { λ r. ⌜ timeAt (now (line .entry)) i ≡ timeShown r ⌝ }
@@ -253,7 +237,7 @@ fn run_renewal<'a>(
     requires { ⌜ (length (now line) ≤ 2 * length (now octets)) × (length (now line) ≤ 2 * length (now key)) × (65535 ≤ length (now out)) ⌝ }
     ensures { λ r. ⌜ RanFor s (resolver (saidRenewal (now (line .entry)))) (now (out .exit)) r ⌝ }
 {
-    let Id::Is(id) = id_at(line, 1) else {
+    let Id::Is(id) = words::id_at(line, 1) else {
         return ran_misread(s);
     };
     let Octets::Count(n) = words::octets_at(line, 2, octets) else {
@@ -291,7 +275,7 @@ fn run_adoption(s: Resolver, line: &[u8], out: &mut [u8]) -> ResolverRan
     requires { ⌜ 65535 ≤ length (now out) ⌝ }
     ensures { λ r. ⌜ RanFor s (resolver (saidAdoption (now (line .entry)))) (now (out .exit)) r ⌝ }
 {
-    let Id::Is(id) = id_at(line, 1) else {
+    let Id::Is(id) = words::id_at(line, 1) else {
         return ran_misread(s);
     };
     let Number::Is(lent) = words::number_at(line, 2) else {
@@ -305,7 +289,7 @@ fn run_deletion(s: Resolver, line: &[u8], out: &mut [u8]) -> ResolverRan
     requires { ⌜ 65535 ≤ length (now out) ⌝ }
     ensures { λ r. ⌜ RanFor s (resolver (saidDeletion (now (line .entry)))) (now (out .exit)) r ⌝ }
 {
-    let Id::Is(id) = id_at(line, 1) else {
+    let Id::Is(id) = words::id_at(line, 1) else {
         return ran_misread(s);
     };
     let Number::Is(lent) = words::number_at(line, 2) else {
@@ -318,7 +302,7 @@ fn run_deletion(s: Resolver, line: &[u8], out: &mut [u8]) -> ResolverRan
 fn run_note(s: Resolver, line: &[u8]) -> ResolverRan
     ensures { λ r. ⌜ ((b : List ℕ) → RanFor s (resolver (saidNote (now (line .entry)))) b r) ⌝ }
 {
-    let Id::Is(id) = id_at(line, 1) else {
+    let Id::Is(id) = words::id_at(line, 1) else {
         return ran_misread(s);
     };
     ran_done(resolver::note(s, id))

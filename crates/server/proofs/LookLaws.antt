@@ -5,9 +5,7 @@ use mathlib.Core.Bool.{Bool, true, false}
 use mathlib.Core.Option.{Option, none, some}
 use mathlib.Core.List.{List}
 use native.Mathlib.Omega.{arith}
-use lib.Dec.{leb}
 use lib.ListN.{length}
-use borrow.Author.Tests.{le-leb, lt-leb}
 use Rattle.model.specs.declared.Key.{Key}
 use Rattle.model.specs.declared.Keys.{Keys}
 use Rattle.model.specs.declared.Keys.the-variants.{Empty, Adopted, Renewing}
@@ -20,7 +18,6 @@ use Rattle.model.specs.Tsig.{Tsig, Signature, unsigned, misplaced, signed, sign
 use Rattle.model.specs.Tables.{namesOf, pairAt, suffixAt, rowNamed, pairRule, tableRules}
 use Rattle.model.specs.Judging.{holder, heldNumber, signerOf}
 use Rattle.model.specs.Calls.{TABLE, NOTQUERY, Outcome, done, found, unchanged, gate, sizeOk, lookedUp, signedBy, holderAt, look, timeOf, served, lookOn}
-use Rattle.model.proofs.Tests.{and-false, both}
 use Rattle.model.proofs.RuleFacts.{KeysOk, pair-sound}
 use Rattle.model.proofs.Rows.{row-below}
 use Rattle.model.proofs.CallLaws.{holderBy, refused-first, passes-first, look-response, look-done}
@@ -136,18 +133,6 @@ module _ (t : Table) (m : List ℕ) (end : ℕ) (request : Bool) (seen : Seen) (
       ∙ ap (λ (o : Outcome). record { table = t; outcome = o }) (looked t (signature (w .message .records)) ∙ ap (lookedBy t) (w .signing))
 
 module _ (m : List ℕ) where
-  pub size-short : length m < 12 → sizeOk m ≡ false
-  unfolding sizeOk
-  size-short h = rw (lt-leb 12 (length m) h) refl
-
-  pub size-long : 65535 < length m → sizeOk m ≡ false
-  unfolding sizeOk
-  size-long h = and-false (leb 12 (length m)) (lt-leb (length m) 65535 h)
-
-  pub size-fits : 12 ≤ length m → length m ≤ 65535 → sizeOk m ≡ true
-  unfolding sizeOk
-  size-fits h k = both (leb 12 (length m)) (leb (length m) 65535) (le-leb _ _ h) (le-leb _ _ k)
-
   pub scan-bad : {r : Outline} {place : ℕ} → Scanned m r → r ≡ Bad place → readMessage m ≡ stops place
   scan-bad s e = subst (Scanned m) e s
 

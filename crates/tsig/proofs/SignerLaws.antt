@@ -19,16 +19,16 @@ use Rattle.tsig.specs.declared.TsigFields.{TsigFields}
 use Rattle.tsig.specs.declared.Layout.{Layout}
 use Rattle.tsig.specs.declared.Layout.the-variants.{Ill, Fields}
 use Rattle.tsig.specs.declared.Signer.{Signer}
-use Rattle.tsig.specs.declared.Signer.the-variants.{Ill as IllSigned, Key}
+use Rattle.tsig.specs.declared.Signer.the-variants.{Nobody, Ill as IllSigned, Key}
 use Rattle.model.proofs.Records.{Owner, record-owner}
 use Rattle.names.specs.Compare.{nameAt}
 use Rattle.names.proofs.Comparing.{readable, readable-is}
 use Rattle.messages.proofs.Parts.{part-length, part-part}
-use Rattle.tsig.specs.Signature.{laidOut, LayoutRead, FieldsRead, SignerRead, SignatureRead}
+use Rattle.tsig.specs.Signature.{laidOut, LayoutRead, FieldsRead, StandsAt, KeptAt, SignerRead, SignatureRead}
 
 module _ (m owner : List ℕ) (place : ℕ) (f : Found) (q : RecordRead m place owner f) where
   pub s-bad : (p : ℕ) → f ≡ Bad p → SignerRead m place IllSigned
-  s-bad p e = record { says = λ section. simp (q .says section, e); fits = tt }
+  s-bad p e = record { says = λ section. simp (q .says section, e); fits = tt; stands = tt }
 
   module _ (len kind class ttl : ℕ) (content : Span) (e : f ≡ At len kind class ttl content) where
     abbrev held : ℕ → Record
@@ -49,12 +49,12 @@ module _ (m owner : List ℕ) (place : ℕ) (f : Found) (q : RecordRead m place 
 
     pub s-class : (class ≡ 255 → ⊥) → SignerRead m place IllSigned
     unfolding tsigOf anyClass
-    s-class h = record { says = λ section. rw (there section, ne-eqb class 255 h) refl; fits = tt }
+    s-class h = record { says = λ section. rw (there section, ne-eqb class 255 h) refl; fits = tt; stands = tt }
 
     module _ (c : class ≡ 255) where
       pub s-ttl : (ttl ≡ 0 → ⊥) → SignerRead m place IllSigned
       unfolding tsigOf anyClass
-      s-ttl h = record { says = λ section. simp (there section, eq-eqb class 255 c, ne-eqb ttl 0 h); fits = tt }
+      s-ttl h = record { says = λ section. simp (there section, eq-eqb class 255 c, ne-eqb ttl 0 h); fits = tt; stands = tt }
 
       -- the data is d, and its layout l
       module _ (t : ttl ≡ 0) (d : List ℕ) (here : d ≡ cut m content) (l : Layout) (n : LayoutRead d l) where
@@ -63,7 +63,7 @@ module _ (m owner : List ℕ) (place : ℕ) (f : Found) (q : RecordRead m place 
         signs section = simp (there section, eq-eqb class 255 c, eq-eqb ttl 0 t) (ap wellFormed (n .says (held section) (sym here)))
 
         pub s-ill : l ≡ Ill → SignerRead m place IllSigned
-        s-ill h = record { says = λ section. signs section ∙ ap (λ (x : Layout). wellFormed (laidOut (take len owner) d x)) h; fits = tt }
+        s-ill h = record { says = λ section. signs section ∙ ap (λ (x : Layout). wellFormed (laidOut (take len owner) d x)) h; fits = tt; stands = tt }
 
         module _ (next size count : ℕ) (h : l ≡ Fields next size count) where
           pub s-fits : (next ≤ 255) × (size < 65536) × (count < 65536) × (next + 10 + size + 6 + count ≡ length d)
@@ -99,11 +99,17 @@ module _ (m owner : List ℕ) (place : ℕ) (f : Found) (q : RecordRead m place 
                     count = omega arith;
                   }),
                 );
+                stands = refl;
               }
 
 module _ (m : List ℕ) (k : Kept) (section place : ℕ) (e : k ≡ Once section place) where
   pub by-other : (section ≡ 3 → ⊥) → SignatureRead m k IllSigned
-  by-other h = record { says = simp (e, ne-eqb section 3 h); fits = tt }
+  by-other h = record { says = simp (e, ne-eqb section 3 h); fits = tt; stands = tt }
+
+  stands-third : section ≡ 3 → (s : Signer) → StandsAt place s → KeptAt k s
+  stands-third h Nobody x = tt
+  stands-third h IllSigned x = tt
+  stands-third h (Key p t) x = cc
 
   pub by-third : section ≡ 3 → (s : Signer) → SignerRead m place s → SignatureRead m k s
-  by-third h s r = record { says = simp (e, eq-eqb section 3 h) (r .says section); fits = r .fits }
+  by-third h s r = record { says = simp (e, eq-eqb section 3 h) (r .says section); fits = r .fits; stands = stands-third h s (r .stands) }

@@ -10,6 +10,7 @@ use Rattle.model.specs.Messages.{Record, recordAt}
 use Rattle.model.specs.Tsig.{Tsig, tsigNamed, Signature, unsigned, misplaced, signed}
 use Rattle.names.specs.Compare.{nameAt, Readable}
 use Rattle.messages.specs.declared.Kept.{Kept}
+use Rattle.messages.specs.declared.Kept.the-variants.{Once}
 use Rattle.messages.specs.Record.{Within, cut}
 use Rattle.messages.specs.Scan.{signedBy, signatureAt}
 use Rattle.tsig.specs.declared.TsigFields.{TsigFields}
@@ -106,12 +107,25 @@ SignerFits m Nobody = Unit {0}
 SignerFits m IllSigned = Unit {0}
 SignerFits m (Key place t) = Readable m place × Fits m t
 
+-- A key's place is the one that was read at; and the one that a scan kept, in the additional section.
+abbrev pub StandsAt : ℕ → Signer → Type 0
+StandsAt place Nobody = Unit {0}
+StandsAt place IllSigned = Unit {0}
+StandsAt place (Key p t) = p ≡ place
+
+abbrev pub KeptAt : Kept → Signer → Type 0
+KeptAt sign Nobody = Unit {0}
+KeptAt sign IllSigned = Unit {0}
+KeptAt sign (Key p t) = sign ≡ Once 3 p
+
 -- The answer is what the record at a place says as a TSIG, in whatever section it stands.
 pub record SignerRead (m : List ℕ) (place : ℕ) (s : Signer) : Type 0 where
   pub says : (section : ℕ) → signedBy (recordAt m section place) ≡ shown m s
   pub fits : SignerFits m s
+  pub stands : StandsAt place s
 
 -- The answer is the signature that a scan's note stands for.
 pub record SignatureRead (m : List ℕ) (sign : Kept) (s : Signer) : Type 0 where
   pub says : signatureAt m sign ≡ shown m s
   pub fits : SignerFits m s
+  pub stands : KeptAt sign s

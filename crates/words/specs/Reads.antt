@@ -10,6 +10,8 @@ use Rattle.model.specs.Octets.{part}
 use Rattle.model.specs.Script.{wordAt}
 use Rattle.words.specs.declared.Number.{Number}
 use Rattle.words.specs.declared.Number.the-variants.{Is, None}
+use Rattle.words.specs.declared.Id.{Id}
+use Rattle.words.specs.declared.Id.the-variants as Id
 use Rattle.words.specs.declared.Octets.{Octets}
 use Rattle.words.specs.declared.Octets.the-variants as Octets
 
@@ -27,6 +29,10 @@ pub record Ends (s : List ℕ) (from r : ℕ) : Type 0 where
 abbrev pub numberShown : Number → Option ℕ
 numberShown (Is n) = some n
 numberShown None = none
+
+abbrev pub idShown : Id → Option ℕ
+idShown (Id.Is n) = some n
+idShown Id.None = none
 
 -- A digit's value, 16 standing for none.
 unfoldable pub nibbleShown : ℕ → Option ℕ

@@ -4,11 +4,18 @@ ghost use Prim.Native.Nat.{_*_, _≤_};
 ghost use lib.ListN.{length};
 ghost use Rattle.model.specs.Text.{isWord, nibble, numberOf, octetsOf, unhex};
 ghost use Rattle.model.specs.Script.{wordsOf, wordAt, numberAt, octetsAt};
-ghost use Rattle.words.specs.Reads.{Starts, Ends, numberShown, nibbleShown, OctetsRead};
+ghost use Rattle.model.specs.Halves.{idAt};
+ghost use Rattle.words.specs.Reads.{Starts, Ends, numberShown, idShown, nibbleShown, OctetsRead};
 
 // What a word says as a number.
 pub enum Number {
     Is(u64),
+    None,
+}
+
+// What a word says as a number of 16 bits.
+pub enum Id {
+    Is(u16),
     None,
 }
 
@@ -179,6 +186,19 @@ pub fn number_at(s: &[u8], i: usize) -> Number
     ensures { λ r. ⌜ numberAt (now (s .entry)) i ≡ numberShown r ⌝ }
 {
     read_number(word(s, i))
+}
+
+// What word number i of a line says as a number of 16 bits.
+pub fn id_at(line: &[u8], i: usize) -> Id
+    ensures { λ r. ⌜ idAt (now (line .entry)) i ≡ idShown r ⌝ }
+{
+    let Number::Is(n) = number_at(line, i) else {
+        return Id::None;
+    };
+    if n < 65536 {
+        return Id::Is(n as u16);
+    }
+    Id::None
 }
 
 // What word number i of a line says as octets, written to the front of out.

@@ -9,4 +9,5 @@ mod refusals;
 mod replies;
 mod resolver;
 mod script;
+mod signing;
 mod tables;

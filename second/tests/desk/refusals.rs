@@ -46,8 +46,9 @@ fn numbers() {
         Refusal::Term,
         Refusal::Twin,
         Refusal::Full,
+        Refusal::MacSize,
     ];
-    assert!((1..=15).eq(numbers.into_iter().map(|refusal| refusal as u8)));
+    assert!((1..=16).eq(numbers.into_iter().map(|refusal| refusal as u8)));
 }
 
 #[test]

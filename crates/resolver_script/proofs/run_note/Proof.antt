@@ -2,8 +2,8 @@
 use mathlib.Core.Path.{_≡_, refl, sym, _∙_, ap}
 use Rattle.model.specs.Halves.{note, saidNote, done}
 use mathlib.Core.Option.{none, some}
-use Rattle.resolver_script.specs.Ran.{idShown}
 use Rattle.resolver_script.proofs.Laws.{as-read, done-for}
+use Rattle.words.specs.Reads.{idShown}
 use borrow.Author.Needs.{needs}
 use Rattle.resolver_script.proofs.run_note.Statement.{statement}
 use Rattle.resolver_script.proofs.run_note.Tie as tie

@@ -7,8 +7,8 @@ use lib.ListN.{length, take, drop}
 use lib.Seq.{length-take-le}
 use Rattle.model.specs.Script.{roomOf}
 use Rattle.model.specs.Halves.{renew, saidRenewal, knownOf, done}
-use Rattle.words.specs.Reads.{numberShown, octetsShown}
-use Rattle.resolver_script.specs.Ran.{idShown, timeShown}
+use Rattle.words.specs.Reads.{numberShown, octetsShown, idShown}
+use Rattle.resolver_script.specs.Ran.{timeShown}
 use Rattle.resolver_script.proofs.Laws.{as-read, sent-for, renewal-counted}
 use borrow.Author.Needs.{needs}
 use Rattle.resolver_script.proofs.run_renewal.Statement.{statement}

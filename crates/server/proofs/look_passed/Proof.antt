@@ -2,7 +2,8 @@
 use Rattle.model.specs.Calls.{FORMAT, SIZE}
 use mathlib.Core.Path.{_∙_, sym}
 use Rattle.model.proofs.CallLaws.{look-format, look-size}
-use Rattle.server.proofs.LookLaws.{scan-bad, scan-whole, size-fits, size-long, size-short}
+use Rattle.messages.proofs.Sizes.{size-short, size-long, size-fits}
+use Rattle.server.proofs.LookLaws.{scan-bad, scan-whole}
 use borrow.Author.Needs.{needs}
 use Rattle.server.proofs.look_passed.Statement.{statement}
 use Rattle.server.proofs.look_passed.Tie as tie

@@ -3,7 +3,7 @@ use Rattle.model.specs.Calls.{OFFER, SIZE}
 use Rattle.model.proofs.CallLaws.{message-offer, message-size}
 use Rattle.server.proofs.MessageLaws.{offer-fits, offer-long, shows-refused}
 use mathlib.Core.Path.{refl}
-use Rattle.server.proofs.LookLaws.{size-fits, size-long, size-short}
+use Rattle.messages.proofs.Sizes.{size-short, size-long, size-fits}
 use borrow.Author.Needs.{needs}
 use Rattle.server.proofs.message_passed.Statement.{statement}
 use Rattle.server.proofs.message_passed.Tie as tie

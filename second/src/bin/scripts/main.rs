@@ -15,6 +15,7 @@ mod reached;
 mod resolver;
 mod rng;
 mod scenarios;
+mod signing;
 mod wire;
 mod worst;
 

@@ -22,7 +22,7 @@ const SPENT: &str = "takes 2^32 keys of one pair";
 const WAITING: &str = "a waiting key comes from a granted renewal only, which ends the signing \
 key's fresh time then; so step 7 answers every later deletion with PartialRevoke";
 
-const CALLS: [(&str, &[u64]); 12] = [
+const CALLS: [(&str, &[u64]); 17] = [
     ("new", &[0, 2]),
     ("enrol", &[0, 2, 3, 12, 13, 14, 15]),
     ("issue", &[0, 2, 3, 9, 13]),
@@ -35,6 +35,11 @@ const CALLS: [(&str, &[u64]); 12] = [
     ("adoption", &[0, 5, 6]),
     ("deletion", &[0, 5, 6]),
     ("reply", &[0, 1, 2, 3, 4]),
+    ("digest-request", &[0, 2, 4, 6, 8, 12]),
+    ("digest-reply", &[0, 2, 4, 6, 8, 12, 16]),
+    ("finish", &[0, 2, 4, 6, 8, 12, 16]),
+    ("read-back", &[0, 4, 6]),
+    ("remove", &[0, 4, 6, 8]),
 ];
 
 const OUTCOMES: [&str; 33] = [

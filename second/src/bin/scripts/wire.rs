@@ -175,6 +175,40 @@ impl Tsig {
             ..record(&self.owner, TSIG, self.class, &data)
         }
     }
+
+    /// What RFC 8945 puts under the MAC of a request: the message (4.3.2) and the TSIG
+    /// variables (4.3.3).
+    pub fn request_digest(&self, message: &[u8]) -> Vec<u8> {
+        joined(&[
+            &self.original.to_be_bytes(),
+            &message[2..],
+            &self.owner.to_ascii_lowercase(),
+            &[0, 255, 0, 0, 0, 0],
+            &self.algorithm.to_ascii_lowercase(),
+            &self.signed.to_be_bytes()[2..],
+            &self.fudge.to_be_bytes(),
+            &self.error.to_be_bytes(),
+            &length_field(&self.other, 0),
+            &self.other,
+        ])
+    }
+
+    /// And under that of a reply, this TSIG's MAC being the request's (4.3.1).
+    pub fn reply_digest(&self, message: &[u8]) -> Vec<u8> {
+        let size = length_field(&self.mac, 0);
+        joined(&[&size, &self.mac, &self.request_digest(message)])
+    }
+
+    /// The message with this TSIG put on.
+    pub fn put_on(&self, message: &[u8]) -> Vec<u8> {
+        let count = u16::from_be_bytes([message[10], message[11]]) + 1;
+        joined(&[
+            &message[..10],
+            &count.to_be_bytes(),
+            &message[12..],
+            &self.record().octets(),
+        ])
+    }
 }
 
 #[derive(Clone)]

@@ -4,21 +4,29 @@ use super::{Maker, Signer};
 use crate::wire::{self, Ask, Question, Record, Tkey, Tsig};
 
 impl Maker<'_> {
-    pub fn tsig(&mut self, s: &Signer) -> Tsig {
+    /// A TSIG by a key of this name and algorithm, its MAC not cut.
+    pub fn tsig_of(&mut self, name: Vec<u8>, algorithm: u64, time: u64) -> Tsig {
         Tsig {
-            owner: s.name(),
+            owner: name,
             class: wire::ANY,
             ttl: 0,
-            algorithm: s.algorithm_name(),
-            signed: s.time,
-            fudge: *self.rng.pick(&[300, 300, 300, 1, 10, 65535]),
-            mac: self.rng.octets(wire::mac_length(s.algorithm)),
+            algorithm: wire::algorithm_name(algorithm),
+            signed: time,
+            fudge: 300,
+            mac: self.rng.octets(wire::mac_length(algorithm)),
             mac_off: 0,
             original: self.rng.next() as u16,
             error: 0,
             other: Vec::new(),
             other_off: 0,
             tail: Vec::new(),
+        }
+    }
+
+    pub fn tsig(&mut self, s: &Signer) -> Tsig {
+        Tsig {
+            fudge: *self.rng.pick(&[300, 300, 300, 1, 10, 65535]),
+            ..self.tsig_of(s.name(), s.algorithm, s.time)
         }
     }
 
@@ -77,7 +85,7 @@ impl Maker<'_> {
     }
 
     /// Records here and there that change nothing.
-    fn dress(&mut self, ask: &mut Ask) {
+    pub fn dress(&mut self, ask: &mut Ask) {
         for section in 0..3 {
             if self.rng.chance(12) {
                 let r = self.by_the_way();

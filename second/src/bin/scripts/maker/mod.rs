@@ -6,10 +6,12 @@ mod eras;
 mod messages;
 mod notes;
 mod resolver;
+mod signing;
 mod states;
 
 pub use messages::{tkey, tsig};
 pub use resolver::{Order, Reply, Wish};
+pub use signing::{Signing, MAX_SIGNING_ROOM};
 
 use crate::desk::{Outcome, Pair, Table};
 use crate::reached::Reached;

@@ -3,6 +3,7 @@
 use super::Maker;
 use crate::desk::{Outcome, Table};
 use crate::resolver::{Resolver, Said};
+use crate::signing::Told;
 use crate::wire;
 
 impl Maker<'_> {
@@ -54,6 +55,21 @@ impl Maker<'_> {
             self.surprise("the resolver changed");
         }
         if said.number() != 0 && !said.is_bare() {
+            self.surprise("a refusal returned more than its number");
+        }
+    }
+
+    /// The signing calls' lines.
+    pub(super) fn note_signing(&mut self, line: &str, told: &Told) {
+        if self.printed(b"list") != self.listing || self.printed(b"keys") != self.shown {
+            self.surprise("a signing line changed the table or the resolver");
+        }
+        let Some(number) = told.number() else {
+            return self.hit("bad line");
+        };
+        let call = line.split(' ').next().unwrap_or_default();
+        self.hit(&format!("{call} {number}"));
+        if number != 0 && !told.is_bare() {
             self.surprise("a refusal returned more than its number");
         }
     }

@@ -314,21 +314,7 @@ impl Maker<'_> {
 
     /// A TSIG by this key.
     pub fn tsig_by(&mut self, key: &Key, time: u64) -> Tsig {
-        Tsig {
-            owner: key.name.clone(),
-            class: wire::ANY,
-            ttl: 0,
-            algorithm: wire::algorithm_name(key.algorithm),
-            signed: time,
-            fudge: 300,
-            mac: self.rng.octets(wire::mac_length(key.algorithm)),
-            mac_off: 0,
-            original: self.rng.next() as u16,
-            error: 0,
-            other: Vec::new(),
-            other_off: 0,
-            tail: Vec::new(),
-        }
+        self.tsig_of(key.name.clone(), key.algorithm, time)
     }
 
     /// A good reply to a request, as a desk would give it, and what it comes to.

@@ -83,11 +83,7 @@ fn deliver(maker: &mut Maker, call: &Call, ask: &Ask, want: Want) -> Option<(Vec
 fn sign(maker: &mut Maker, reply: &[u8], key: &Key, time: u64, error: u16) -> Vec<u8> {
     let mut tsig = maker.tsig_by(key, time);
     tsig.error = error;
-    let mut octets = reply.to_vec();
-    let count = u16::from_be_bytes([octets[10], octets[11]]) + 1;
-    octets[10..12].copy_from_slice(&count.to_be_bytes());
-    octets.extend(tsig.record().octets());
-    octets
+    tsig.put_on(reply)
 }
 
 /// What the desk's granting comes to at the resolver: an offered key is the waiting one.

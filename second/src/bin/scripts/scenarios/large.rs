@@ -1,7 +1,7 @@
 //! Messages, replies and lines at their greatest size. Rare, since each is long.
 
 use super::names::pointer_chain;
-use super::{list, Group};
+use super::{list, signing, Group};
 use crate::desk::Want;
 use crate::maker::{tkey, Maker, Signer, LINE_LIMIT};
 use crate::wire::{self, label, name, name_of, pointer, record, Ask};
@@ -9,8 +9,8 @@ use crate::wire::{self, label, name, name_of, pointer, record, Ask};
 pub fn groups() -> Vec<Group> {
     vec![Group {
         name: "large",
-        weight: 3,
-        items: || list(&LARGE),
+        weight: 4,
+        items: || list(&[&LARGE[..], &signing::LARGE].concat()),
         run: large,
     }]
 }
@@ -44,6 +44,9 @@ const LARGE: [&str; 23] = [
 ];
 
 fn large(maker: &mut Maker, item: &str) -> bool {
+    if signing::LARGE.contains(&item) {
+        return signing::large(maker, item);
+    }
     let s = maker.live();
     let size: usize = item
         .rsplit(' ')

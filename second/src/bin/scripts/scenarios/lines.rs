@@ -1,8 +1,9 @@
 //! Script lines that do not read, and odd ones that do.
 
-use super::{list, Group};
+use super::{cross, list, two_words, Group};
 use crate::maker::Maker;
 use crate::resolver::Said;
+use crate::signing::Told;
 
 pub fn groups() -> Vec<Group> {
     vec![
@@ -29,6 +30,18 @@ pub fn groups() -> Vec<Group> {
             weight: 2,
             items: || list(&RESOLVERS_ODD),
             run: resolvers_odd,
+        },
+        Group {
+            name: "signing's bad line",
+            weight: 13,
+            items: signings_bad_items,
+            run: signings_bad,
+        },
+        Group {
+            name: "signing's odd line",
+            weight: 2,
+            items: || list(&SIGNINGS_ODD),
+            run: signings_odd,
         },
     ]
 }
@@ -442,5 +455,181 @@ fn resolvers_odd(maker: &mut Maker, item: &str) -> bool {
         "note of ID 65535" => maker.notes(65_535),
         "reply of no octets" => maker.step("reply good -") == Said::Read(4, false),
         _ => maker.step("hold 016b00 256 1 2") == Said::Number(0) && maker.line(b"list").listed,
+    }
+}
+
+const SIGNINGS: [&str; 5] = [
+    "digest-request",
+    "digest-reply",
+    "finish",
+    "read-back",
+    "remove",
+];
+
+/// What their lines have in common, wherever they have it.
+const SIGNINGS_BAD: [&str; 7] = [
+    "missing word",
+    "extra word",
+    "leading space",
+    "trailing space",
+    "carriage return",
+    "word in capitals",
+    "MESSAGE odd",
+];
+
+const BAD_FIELDS: [&str; 23] = [
+    "MESSAGE empty",
+    "NAME odd",
+    "NAME empty",
+    "NAME a bad digit",
+    "ALGORITHM odd",
+    "ALGORITHM 256",
+    "ALGORITHM empty",
+    "SIGNED 2^64",
+    "SIGNED a dash",
+    "SIGNED -1",
+    "FUDGE 65536",
+    "FUDGE 2^64",
+    "FUDGE empty",
+    "ID 65536",
+    "ID 0x9",
+    "ERROR 65536",
+    "ERROR a dash",
+    "OTHER odd",
+    "OTHER --",
+    "OTHER empty",
+    "ROOM 2^64",
+    "ROOM a dash",
+    "ROOM empty",
+];
+
+const BAD_MACS: [&str; 3] = ["MAC odd", "MAC empty", "MAC a bad digit"];
+
+const OTHER_SIGNINGS_BAD: [&str; 7] = [
+    "read-back, MESSAGE empty",
+    "remove, MESSAGE empty",
+    "remove, ROOM 2^64",
+    "remove, ROOM a dash",
+    "two spaces",
+    "tab for space",
+    "underscore for hyphen",
+];
+
+fn signings_bad_items() -> Vec<String> {
+    let mut all = cross(&SIGNINGS, &SIGNINGS_BAD);
+    all.extend(cross(&SIGNINGS[..3], &BAD_FIELDS));
+    all.extend(cross(&SIGNINGS[1..3], &BAD_MACS));
+    all.extend(list(&OTHER_SIGNINGS_BAD));
+    all
+}
+
+/// The words of a signing line that reads.
+fn signings_good(call: &str) -> Vec<&str> {
+    let message = "000a00000000000000000000";
+    let mut words = vec![call, message];
+    match call {
+        "read-back" => {}
+        "remove" => words.push("512"),
+        _ => words.extend(["016b00", "016100", "1000", "300", "10", "0", "-", "512"]),
+    }
+    if call == "digest-reply" || call == "finish" {
+        words.push("0a0b");
+    }
+    words
+}
+
+/// Which word of the line a field is.
+fn field_place(call: &str, field: &str) -> usize {
+    let fields = [
+        "MESSAGE",
+        "NAME",
+        "ALGORITHM",
+        "SIGNED",
+        "FUDGE",
+        "ID",
+        "ERROR",
+        "OTHER",
+        "ROOM",
+        "MAC",
+    ];
+    match (call, field) {
+        ("remove", "ROOM") => 2,
+        _ => 1 + fields.iter().position(|f| *f == field).expect("a field"),
+    }
+}
+
+fn signings_bad(maker: &mut Maker, item: &str) -> bool {
+    let line = signings_bad_line(item);
+    maker.sign_line(&line) == Told::Bad
+}
+
+fn signings_bad_line(item: &str) -> String {
+    let good = |call| signings_good(call).join(" ");
+    match item {
+        "two spaces" => return good("finish").replacen(' ', "  ", 1),
+        "tab for space" => return good("remove").replacen(' ', "\t", 1),
+        "underscore for hyphen" => return good("read-back").replacen('-', "_", 1),
+        _ => {}
+    }
+    let (call, fault) = two_words(item);
+    let mut words = signings_good(call);
+    match fault {
+        "missing word" => return words[..words.len() - 1].join(" "),
+        "extra word" => return words.join(" ") + " 0a",
+        "leading space" => return format!(" {}", words.join(" ")),
+        "trailing space" => return words.join(" ") + " ",
+        "carriage return" => return words.join(" ") + "\r",
+        "word in capitals" => return words.join(" ").to_uppercase(),
+        _ => {}
+    }
+    let (field, way) = fault.split_once(' ').expect("a field and what is wrong");
+    words[field_place(call, field)] = match way {
+        "odd" => "000a00000000000000000000000",
+        "empty" => "",
+        "a dash" => "-",
+        "a bad digit" => "016g00",
+        "2^64" => "18446744073709551616",
+        // An algorithm is octets here, and 256 is an odd count of digits.
+        itself => itself,
+    };
+    words.join(" ")
+}
+
+const SIGNINGS_ODD: [&str; 6] = [
+    "leading zeros",
+    "capitals in hex",
+    "no message",
+    "no name",
+    "no MAC",
+    "numbers at their greatest",
+];
+
+/// Lines that read, whatever the call says then.
+fn signings_odd(maker: &mut Maker, item: &str) -> bool {
+    let mut told = |line: &str| maker.sign_line(line).number();
+    let header = "000a00000000000000000000";
+    match item {
+        "leading zeros" => {
+            let numbers = "0001000 0000000000000000000000065535 007 00 - 00512";
+            told(&format!("digest-request {header} 016B00 016100 {numbers}")) == Some(0)
+                && told(&format!("remove {header} 000012")) == Some(6)
+        }
+        "capitals in hex" => {
+            told(&format!(
+                "finish 000A{header} 016B00 016100 1 2 3 4 aBCd 512 Ef"
+            )) == Some(6)
+                && told(&format!("read-back 0ABc{header}")) == Some(6)
+        }
+        "no message" => {
+            told("read-back -") == Some(4)
+                && told("remove - 0") == Some(4)
+                && told("finish - 00 00 0 0 0 0 - 0 -") == Some(4)
+        }
+        "no name" => told(&format!("finish {header} - 00 0 0 0 0 - 512 -")) == Some(12),
+        "no MAC" => told(&format!("digest-reply {header} 00 00 0 0 0 0 - 512 -")) == Some(0),
+        _ => {
+            let numbers = "281474976710655 65535 65535 65535 - 18446744073709551615";
+            told(&format!("digest-request {header} 00 00 {numbers}")) == Some(0)
+        }
     }
 }

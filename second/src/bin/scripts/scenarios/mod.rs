@@ -11,11 +11,14 @@ mod names;
 mod refusals;
 mod requests;
 mod rooms;
+mod signing;
 mod tables;
 mod times;
 mod tkeys;
 mod tsigs;
+mod unsigning;
 
+use crate::desk::read_number;
 use crate::maker::Maker;
 use crate::reached::Reached;
 
@@ -50,6 +53,29 @@ fn two_words(item: &str) -> (&str, &str) {
     item.split_once(", ").expect("two words")
 }
 
+/// Rooms to lend, by number or by the octets that are to be written.
+const ROOMS: [&str; 8] = [
+    "0",
+    "11",
+    "one short",
+    "exact",
+    "one more",
+    "65535",
+    "65536",
+    "2^64 - 1",
+];
+
+/// Such a room for so many octets.
+fn room_for(length: u64, room: &str) -> u64 {
+    match room {
+        "one short" => length.saturating_sub(1),
+        "exact" => length,
+        "one more" => length + 1,
+        "2^64 - 1" => u64::MAX,
+        number => read_number(number),
+    }
+}
+
 pub fn groups() -> Vec<Group> {
     let mut all = Vec::new();
     all.extend(refusals::groups());
@@ -66,6 +92,8 @@ pub fn groups() -> Vec<Group> {
     all.extend(exchange::groups());
     all.extend(requests::groups());
     all.extend(answers::groups());
+    all.extend(signing::groups());
+    all.extend(unsigning::groups());
     all
 }
 

@@ -1,6 +1,6 @@
 //! The resolver's requests: their octets, room, refusals, what they replace, and the turn.
 
-use super::{cross, list, two_words, Group};
+use super::{cross, list, room_for, two_words, Group, ROOMS};
 use crate::maker::{Maker, Wish, MAX_ROOM};
 use crate::resolver::{Key, Read};
 use crate::wire::{self, joined, label, name, name_of, pointer, record};
@@ -305,17 +305,6 @@ fn bad_key(wish: &Wish, item: &str) -> Vec<u8> {
     key.octets()
 }
 
-const ROOMS: [&str; 8] = [
-    "0",
-    "11",
-    "one short",
-    "exact",
-    "one more",
-    "65535",
-    "65536",
-    "2^64 - 1",
-];
-
 fn room(maker: &mut Maker, item: &str) -> bool {
     let (kind, room) = two_words(item);
     if !maker.prepared(kind == "adoption") {
@@ -323,17 +312,7 @@ fn room(maker: &mut Maker, item: &str) -> bool {
     }
     let order = maker.order(kind);
     let length = order.ask.octets().len() as u64;
-    let room = match room {
-        "0" => 0,
-        "11" => 11,
-        "one short" => length - 1,
-        "exact" => length,
-        "one more" => length + 1,
-        "65535" => MAX_ROOM,
-        "65536" => MAX_ROOM + 1,
-        _ => u64::MAX,
-    };
-    maker.writes(&order, room)
+    maker.writes(&order, room_for(length, room))
 }
 
 const OPEN: [&str; 5] = ["none", "ordinary", "renewal", "adoption", "deletion"];

@@ -1,8 +1,8 @@
 //! The lent reply buffer: just enough, one short, none, and more than any reply needs.
 
-use super::{cross, two_words, Group};
+use super::{cross, room_for, two_words, Group, ROOMS};
 use crate::desk::Want;
-use crate::maker::{tsig, Maker, Signer, MAX_ROOM};
+use crate::maker::{tsig, Maker, Signer};
 use crate::wire::{key_name, Ask};
 
 pub fn groups() -> Vec<Group> {
@@ -26,17 +26,6 @@ const KINDS: [&str; 11] = [
     "re-adoption",
     "deletion",
     "passed up",
-];
-
-const ROOMS: [&str; 8] = [
-    "0",
-    "11",
-    "one short",
-    "exact",
-    "one more",
-    "65535",
-    "65536",
-    "2^64 - 1",
 ];
 
 fn ask_for(maker: &mut Maker, kind: &str) -> (Signer, Ask, Want) {
@@ -85,16 +74,7 @@ fn room(maker: &mut Maker, item: &str) -> bool {
     let mut call = maker.call(s.time);
     call.good = kind != "BADSIG";
     let length = maker.due_reply(&call, &ask, want).len() as u64;
-    call.room = match room {
-        "0" => 0,
-        "11" => 11,
-        "one short" => length.saturating_sub(1),
-        "exact" => length,
-        "one more" => length + 1,
-        "65535" => MAX_ROOM,
-        "65536" => MAX_ROOM + 1,
-        _ => u64::MAX,
-    };
+    call.room = room_for(length, room);
     let want = match call.room < length {
         true => Want::Refused(8),
         false => want,

@@ -1,11 +1,11 @@
--- `resolver_script::id_at` meets its contract. Assumes nothing.
+-- `words::id_at` meets its contract. Assumes nothing.
 use mathlib.Core.Path.{_≡_, refl, sym, _∙_, ap}
 use borrow.Author.Tests.{lt-ltb, le-ltb}
 use Rattle.words.specs.Reads.{numberShown}
 use Rattle.model.specs.Halves.{idAt}
 use borrow.Author.Needs.{needs}
-use Rattle.resolver_script.proofs.id_at.Statement.{statement}
-use Rattle.resolver_script.proofs.id_at.Tie as tie
+use Rattle.words.proofs.id_at.Statement.{statement}
+use Rattle.words.proofs.id_at.Tie as tie
 
 number-at-requires : tie.Need-number-at-requires
 number-at-requires c κs = search needs

@@ -1,9 +1,9 @@
 // The octets under a TSIG's MAC, and its data (02, CR 3; RFC 8945, 4.2 and 4.3), into the lent buffer. A writer takes the place and answers the next one.
 ghost use mathlib.Core.Path.{_≡_};
 ghost use mathlib.Core.List.{List, _++_};
-ghost use Prim.Native.Nat.{ℕ, _+_, _≤_, _<_, _^_};
+ghost use Prim.Native.Nat.{ℕ, _+_, _-_, _≤_, _<_, _^_};
 ghost use lib.ListN.{length};
-ghost use Rattle.model.specs.Octets.{be16, be48};
+ghost use Rattle.model.specs.Octets.{be16, be48, part};
 ghost use Rattle.model.specs.Signing.{tsigData, canonical, variables, requestDigest};
 ghost use Rattle.octets.specs.Wrote.{Wrote};
 ghost use Rattle.digests.specs.Stamps.{stampOf};
@@ -125,4 +125,15 @@ pub fn data_into(
     let e = octets::all_into(buf, d, mac);
     let f = octets::u16_into(buf, e, numbers.original_id as usize);
     other_into(buf, f, numbers, other)
+}
+
+// The message m up to `end`, with this count of additional records in its header.
+pub fn counted_into(buf: &mut [u8], m: &[u8], count: usize, end: usize) -> usize
+    requires { ⌜ (12 ≤ end) × (end ≤ length (now m)) × (end ≤ length (now buf)) × (count < 65536) ⌝ }
+    ensures { λ r. ⌜ (r ≡ end)
+        × Wrote (part (now (m .entry)) 0 10 ++ (be16 count ++ part (now (m .entry)) 12 (end - 12))) 0 (now (buf .entry)) (now (buf .exit)) r ⌝ }
+{
+    let a = octets::part_into(buf, 0, m, 0, 10);
+    let b = octets::u16_into(buf, a, count);
+    octets::part_into(buf, b, m, 12, end - 12)
 }

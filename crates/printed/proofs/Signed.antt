@@ -15,7 +15,7 @@ use Rattle.model.specs.Names.{wireName}
 use Rattle.model.specs.Messages.{Record, Question, Message, questionAt, recordAt, questionsOf, section, recordsOf, messageOf, wholly, readSections, readMessage, isAdditional, answerSection, authoritySection, additionalSection}
 use Rattle.model.specs.Tsig.{Tsig, Signature, unsigned, misplaced, signed, signature, tsigType, anyClass, isTsig, tsigOf, wellFormed, lastRecord}
 use Rattle.model.specs.Replies.{recordOctets}
-use Rattle.model.specs.Signing.{Stamp, tsigData, finished, firstRecords, butLast, placeOf, removed}
+use Rattle.model.specs.Signing.{Stamp, asTsig, tsigData, finished, firstRecords, butLast, placeOf, removed}
 use Rattle.octets.proofs.Laws.{be16-length}
 use Rattle.printed.proofs.Appended.{Stops, reads-next, reads-what, many-kept, many-more, question-kept, record-kept}
 use Rattle.printed.proofs.Fields.{behind, field16}
@@ -249,20 +249,7 @@ module _ (m name : List ℕ) (t : Stamp) (q : Message) (p : Parsed m q) where
 
     -- and it stands well
     module _ (by : wireName (t .algorithm) ≡ true) where
-      abbrev told : Tsig
-      told =
-          record {
-            name = name;
-            algorithm = t .algorithm;
-            signed = t .signed;
-            fudge = t .fudge;
-            mac = t .mac;
-            originalId = t .originalId;
-            error = t .error;
-            other = t .other;
-          }
-
-      pub finished-signed : Unsigned (signature (p .records)) → signature (p .records ++ (stamp ∷ [])) ≡ signed told
+      pub finished-signed : Unsigned (signature (p .records)) → signature (p .records ++ (stamp ∷ [])) ≡ signed (asTsig name t)
       unfolding lastRecord isTsig isAdditional
       finished-signed u = signed-last (p .records) stamp u ∙ rw (eq-eqb tsigType tsigType refl, eq-eqb additionalSection additionalSection refl, tsig-back stamp t refl refl refl by) refl
 

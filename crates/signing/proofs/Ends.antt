@@ -134,7 +134,7 @@ module _ (m name : List ℕ) (t : Stamp) (from : 12 ≤ length m) where
   finished-length = let l = data-length t in simp (length-append, length-drop, length-take) (omega arith)
 
 -- the message with one more additional record counted, and its TSIG
-pub counted-octets : (m : List ℕ) (k : ℕ) → k ≡ u16At m 10 → part m 0 10 ++ (be16 (k + 1) ++ part m 12 (length m - 12)) ≡ countedOctets m
+pub counted-octets : (m : List ℕ) (k : ℕ) → k ≡ u16At m 10 + 1 → part m 0 10 ++ (be16 k ++ part m 12 (length m - 12)) ≡ countedOctets m
 unfolding countedOctets part
 counted-octets m k e = rw (e, to-end) refl
 

@@ -190,9 +190,7 @@ fn counted_into(buf: &mut [u8], m: &[u8]) -> usize
     requires { ⌜ (length (now m) ≤ length (now buf)) × Sized (now m) ⌝ }
     ensures { λ r. ⌜ (r ≡ length (now (m .entry))) × Wrote (countedOctets (now (m .entry))) 0 (now (buf .entry)) (now (buf .exit)) r ⌝ }
 {
-    let a = octets::part_into(buf, 0, m, 0, 10);
-    let b = octets::u16_into(buf, a, octets::u16_at(m, 10) + 1);
-    octets::part_into(buf, b, m, 12, m.len() - 12)
+    digests::counted_into(buf, m, octets::u16_at(m, 10) + 1, m.len())
 }
 
 // The TSIG.

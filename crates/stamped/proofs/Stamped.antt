@@ -13,10 +13,10 @@ use Rattle.model.specs.Messages.{Message, messageOf, readMessage, additionalSec
 use Rattle.model.specs.Tsig.{signed, signature, tsigType, anyClass}
 use Rattle.model.specs.Exchange.{Turn, Sides, requestIn, replyIn}
 use Rattle.model.specs.Calls.{sizeOk}
-use Rattle.model.specs.Signing.{Stamp, tsigData, finished, finishedIn, readBack, removed, removedIn}
+use Rattle.model.specs.Signing.{Stamp, asTsig, tsigData, finished, finishedIn, readBack, removed, removedIn}
 use Rattle.model.proofs.Tests.{both}
 use Rattle.printed.proofs.Signed.{Unsigned, Parsed, parsed, finished-read, finished-signed, finished-removed, finished-longer}
-use Rattle.stamped.specs.Stamped.{given, SignedBy, requestStamped, replyStamped, Stamped}
+use Rattle.stamped.specs.Stamped.{SignedBy, requestStamped, replyStamped, Stamped}
 use Rattle.stamped.proofs.Inside.{Inside, inside}
 
 -- the records of a message that was read
@@ -40,7 +40,7 @@ module _ (m name : List ℕ) (t : Stamp) (room : ℕ) (e : finishedIn m name t r
   whole : readMessage d ≡ reads q (length d)
   whole = finished-read m name t (i .message) p (i .named)
 
-  well : signature (q .records) ≡ signed (given name t)
+  well : signature (q .records) ≡ signed (asTsig name t)
   unfolding messageOf
   well = finished-signed m name t (i .message) p (i .named) (i .by) (bare-records m (i .message) p (i .bare))
 
@@ -50,10 +50,10 @@ module _ (m name : List ℕ) (t : Stamp) (room : ℕ) (e : finishedIn m name t r
       let l = finished-longer m name t (i .message) p in
       both (leb 12 (length d)) (leb (length d) 65535) (le-leb 12 (length d) (omega (arith, l, p .head))) (le-leb (length d) 65535 (i .fits))
 
-  placed : SignedBy (finishedIn m name t room .octets) (given name t)
-  placed = subst (λ (x : List ℕ). SignedBy x (given name t)) (sym (i .octets)) (record { message = q; reads-whole = whole; placed = well })
+  placed : SignedBy (finishedIn m name t room .octets) (asTsig name t)
+  placed = subst (λ (x : List ℕ). SignedBy x (asTsig name t)) (sym (i .octets)) (record { message = q; reads-whole = whole; placed = well })
 
-  back : readBack (finishedIn m name t room .octets) ≡ record { number = 0; tsig = some (given name t) }
+  back : readBack (finishedIn m name t room .octets) ≡ record { number = 0; tsig = some (asTsig name t) }
   unfolding readBack
   back = rw (i .octets, sized, whole, well) refl
 

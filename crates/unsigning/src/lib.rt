@@ -75,9 +75,7 @@ fn cut_into(buf: &mut [u8], m: &[u8], place: usize) -> usize
     requires { ⌜ LastAt (now m) place × (place ≤ length (now buf)) ⌝ }
     ensures { λ r. ⌜ (r ≡ place) × Wrote (removed (now (m .entry))) 0 (now (buf .entry)) (now (buf .exit)) r ⌝ }
 {
-    let a = octets::part_into(buf, 0, m, 0, 10);
-    let b = octets::u16_into(buf, a, octets::u16_at(m, 10) - 1);
-    octets::part_into(buf, b, m, 12, place - 12)
+    digests::counted_into(buf, m, octets::u16_at(m, 10) - 1, place)
 }
 
 // ROOM, or the message without the record at `place`, its last.

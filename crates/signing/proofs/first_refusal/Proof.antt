@@ -1,5 +1,6 @@
 -- `signing::first_refusal` meets its contract. Assumes nothing.
 use mathlib.Core.Path.{_∙_, sym}
+use native.Mathlib.Omega.{arith}
 use borrow.Author.Tests.{not-true, not-false}
 use Rattle.signing.proofs.Refusals.{stopped, unnamed, unhashed, untimed, all-pass}
 use borrow.Author.Needs.{needs}
@@ -25,10 +26,10 @@ returns-3 : tie.Need-returns-3
 returns-3 c = unhashed _ _ _ _ _ (c .before .before .before .before .before .message-refusal .ensures) (c .before .before .before .before .if1 .left) (sym (c .before .before .before .wire-name .ensures) ∙ not-false _ (c .before .before .if2 .left)) (sym (c .before .wire-name2 .ensures) ∙ not-true _ (c .if3 .taken))
 
 returns-4 : tie.Need-returns-4
-returns-4 c = untimed _ _ _ _ _ (c .before .before .before .before .before .before .message-refusal .ensures) (c .before .before .before .before .before .if1 .left) (sym (c .before .before .before .before .wire-name .ensures) ∙ not-false _ (c .before .before .before .if2 .left)) (sym (c .before .before .wire-name2 .ensures) ∙ not-false _ (c .before .if3 .left)) (c .if4 .taken)
+returns-4 c = untimed _ _ _ _ _ (c .before .before .before .before .before .before .message-refusal .ensures) (c .before .before .before .before .before .if1 .left) (sym (c .before .before .before .before .wire-name .ensures) ∙ not-false _ (c .before .before .before .if2 .left)) (sym (c .before .before .wire-name2 .ensures) ∙ not-false _ (c .before .if3 .left)) (omega arith)
 
 returns-5 : tie.Need-returns-5
-returns-5 c = all-pass _ _ _ _ _ (c .before .before .before .before .before .before .message-refusal .ensures) (c .before .before .before .before .before .if1 .left) (sym (c .before .before .before .before .wire-name .ensures) ∙ not-false _ (c .before .before .before .if2 .left)) (sym (c .before .before .wire-name2 .ensures) ∙ not-false _ (c .before .if3 .left)) (c .if4 .left)
+returns-5 c = all-pass _ _ _ _ _ (c .before .before .before .before .before .before .message-refusal .ensures) (c .before .before .before .before .before .if1 .left) (sym (c .before .before .before .before .wire-name .ensures) ∙ not-false _ (c .before .before .before .if2 .left)) (sym (c .before .before .wire-name2 .ensures) ∙ not-false _ (c .before .if3 .left)) (omega arith)
 
 pub first-refusal-spec : {M : Type 1} → statement M
 first-refusal-spec =

@@ -1,16 +1,17 @@
 -- `signing::message_refusal` meets its contract. Assumes nothing.
 use Rattle.signing.proofs.Refusals.{too-short, too-long, ill-formed, signed-already, unsigned-yet}
 use mathlib.Core.Path.{_∙_, sym}
+use native.Mathlib.Omega.{arith}
 use denote.Ref.{now}
 use borrow.Author.Needs.{needs}
 use Rattle.signing.proofs.message_refusal.Statement.{statement}
 use Rattle.signing.proofs.message_refusal.Tie as tie
 
 returns : tie.Need-returns
-returns c = too-short _ (c .if1 .taken)
+returns c = too-short _ (omega arith)
 
 returns-2 : tie.Need-returns-2
-returns-2 c = too-long _ (c .if2 .taken)
+returns-2 c = too-long _ (omega arith)
 
 scan-requires : tie.Need-scan-requires
 scan-requires c κs = search needs
@@ -27,15 +28,15 @@ is-bare-requires c κs = search needs
 returns-3 : tie.Need-returns-3
 returns-3 c =
     let a = c .before .before .before .before .before .before .before .before .before .args in
-    unsigned-yet (now (a .m)) (c .before .before .before .before .before .before .before .if1 .left) (c .before .before .before .before .before .before .if2 .left) _ _ _ _ (c .before .before .before .before .before .scan .ensures) (c .before .before .before .seen .given .1) (sym (c .if3 .taken) ∙ c .before .is-bare .ensures (now (a .m)))
+    unsigned-yet (now (a .m)) (omega arith) (omega arith) _ _ _ _ (c .before .before .before .before .before .scan .ensures) (c .before .before .before .seen .given .1) (sym (c .if3 .taken) ∙ c .before .is-bare .ensures (now (a .m)))
 
 returns-4 : tie.Need-returns-4
-returns-4 c = ill-formed _ (c .before .before .before .before .if1 .left) (c .before .before .before .if2 .left) _ _ (c .before .before .scan .ensures) (c .enum-told .given .1)
+returns-4 c = ill-formed _ (omega arith) (omega arith) _ _ (c .before .before .scan .ensures) (c .enum-told .given .1)
 
 returns-5 : tie.Need-returns-5
 returns-5 c =
     let a = c .before .before .before .before .before .before .before .before .before .args in
-    signed-already (now (a .m)) (c .before .before .before .before .before .before .before .if1 .left) (c .before .before .before .before .before .before .if2 .left) _ _ _ _ (c .before .before .before .before .before .scan .ensures) (c .before .before .before .seen .given .1) (sym (c .if3 .left) ∙ c .before .is-bare .ensures (now (a .m)))
+    signed-already (now (a .m)) (omega arith) (omega arith) _ _ _ _ (c .before .before .before .before .before .scan .ensures) (c .before .before .before .seen .given .1) (sym (c .if3 .left) ∙ c .before .is-bare .ensures (now (a .m)))
 
 pub message-refusal-spec : {M : Type 1} → statement M
 message-refusal-spec =

@@ -16,7 +16,7 @@ returns : tie.Need-returns
 returns c = λ own.
     let a = c .before .before .before .before .before .before .before .before .args in
     let t = stampOf (a .numbers) (now (a .algorithm)) own (now (a .other)) in
-    reply-mac _ _ t (c .before .before .before .before .before .before .before .before .pre .0) _ _ (c .refused .ensures) (now (a .mac)) (c .before .if1 .taken)
+    reply-mac _ _ t (c .before .before .before .before .before .before .before .before .pre .0) _ _ (c .refused .ensures) (now (a .mac)) (omega arith)
 
 refused-requires-2 : tie.Need-refused-requires-2
 refused-requires-2 c κs = search needs

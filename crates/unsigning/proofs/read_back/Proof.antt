@@ -1,4 +1,5 @@
 -- `unsigning::read_back` meets its contract. Assumes nothing.
+use native.Mathlib.Omega.{arith}
 use Rattle.unsigning.proofs.Back.{too-short, too-long, ill-formed, well-formed}
 use borrow.Author.Needs.{needs}
 use Rattle.unsigning.proofs.read_back.Statement.{statement}
@@ -8,13 +9,13 @@ unread-requires : tie.Need-unread-requires
 unread-requires c κs = search needs
 
 returns : tie.Need-returns
-returns c = too-short _ _ (c .before .if1 .taken) (c .unread .ensures)
+returns c = too-short _ _ (omega arith) (c .unread .ensures)
 
 unread-requires-2 : tie.Need-unread-requires-2
 unread-requires-2 c κs = search needs
 
 returns-2 : tie.Need-returns-2
-returns-2 c = too-long _ _ (c .before .if2 .taken) (c .unread2 .ensures)
+returns-2 c = too-long _ _ (omega arith) (c .unread2 .ensures)
 
 scan-requires : tie.Need-scan-requires
 scan-requires c κs = search needs
@@ -32,10 +33,10 @@ read-kept-requires : tie.Need-read-kept-requires
 read-kept-requires c κs = search needs
 
 returns-3 : tie.Need-returns-3
-returns-3 c = ill-formed _ _ (c .before .before .before .before .before .if1 .left) (c .before .before .before .before .if2 .left) _ (c .before .before .before .scan .ensures) _ (c .before .enum-told .given .1) (c .unread3 .ensures)
+returns-3 c = ill-formed _ _ (omega arith) (omega arith) _ (c .before .before .before .scan .ensures) _ (c .before .enum-told .given .1) (c .unread3 .ensures)
 
 returns-4 : tie.Need-returns-4
-returns-4 c = well-formed _ _ (c .before .before .before .before .before .before .if1 .left) (c .before .before .before .before .before .if2 .left) _ (c .before .before .before .before .scan .ensures) _ _ _ (c .before .before .seen .given .1) (c .read-kept .ensures)
+returns-4 c = well-formed _ _ (omega arith) (omega arith) _ (c .before .before .before .before .scan .ensures) _ _ _ (c .before .before .seen .given .1) (c .read-kept .ensures)
 
 pub read-back-spec : {M : Type 1} → statement M
 read-back-spec =

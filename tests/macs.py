@@ -1,11 +1,11 @@
 #!/usr/bin/env python3
-"""The MACs of real clients, over the octets that a replay program puts under them.
+"""The MACs of real clients and servers, over the octets that a replay program puts under them.
 
     tests/macs.py PROGRAM FILES...
 
-Each message of the files stands below a comment that gives its key's secret in hexadecimal. The program reads the TSIG back, removes it and writes the
-digest of the message without it; the MAC over that digest must be the one that the client sent. The finished message must be the client's again. A digest
-of a reply, which no client sends, is compared with RFC 8945's section 4.3 as it is put together here.
+Each message of the files stands below a comment that gives its key's secret in hexadecimal and, if it is a reply, the MAC of its request. The program reads
+the TSIG back, removes it and writes the digest of the message without it; the MAC over that digest must be the one that was sent. The finished message must be
+the one that was sent again. The digest of a reply to each client is compared with RFC 8945's section 4.3 as it is put together here.
 """
 
 import copy
@@ -16,6 +16,7 @@ import subprocess
 import sys
 
 HASHES = {b"\x0bhmac-sha256\0": hashlib.sha256, b"\x0bhmac-sha384\0": hashlib.sha384, b"\x0bhmac-sha512\0": hashlib.sha512}
+REPLY = re.compile(r".*; request MAC ([0-9a-f]+);")
 COMMENT = re.compile(r"# (\S+): .*; key (\S+) secret ([0-9a-f]+) \(hex\).*; time signed (\d+) fudge (\d+) MAC (\d+) octets")
 ROOM = 65535
 
@@ -25,7 +26,7 @@ class Wrong(Exception):
 
 
 class Vector:
-    """A message of a client, and what its comment says."""
+    """A message of a client or a server, and what its comment says; `asked` is the MAC of the request, None where the message is one."""
 
     def __init__(self, comment, message):
         said = COMMENT.match(comment)
@@ -35,6 +36,8 @@ class Vector:
         self.message = bytes.fromhex(message)
         self.secret = bytes.fromhex(secret)
         self.said = (wire_name(key), int(signed), int(fudge), int(size))
+        asked = REPLY.match(comment)
+        self.asked = bytes.fromhex(asked.group(1)) if asked else None
 
 
 class Tsig:
@@ -149,15 +152,15 @@ def check_mac(vector, tsig, digest):
 
 
 def check_finished(program, vector, tsig, removed):
-    """The client's message again, or one with the same fields where the client's has its TSIG's owner compressed."""
+    """The message that was sent again, or one with the same fields where that one has its TSIG's owner compressed."""
     finished = program.finish(removed, tsig)
     if vector.message[len(removed):].startswith(tsig.name):
         if finished != vector.message:
-            raise Wrong("finish does not give the client's message")
+            raise Wrong("finish does not give the message that was sent")
         return
     again = program.read_back(finished)
     if vars(again) != vars(tsig) or program.remove(finished) != removed:
-        raise Wrong("what finish wrote does not read back as the client's message")
+        raise Wrong("what finish wrote does not read back as the message that was sent")
 
 
 def reply_digest(message, tsig, request_mac):
@@ -186,9 +189,12 @@ def check(program, vector):
     check_fields(vector, tsig)
     removed = program.remove(vector.message)
     check_removed(vector, removed)
-    check_mac(vector, tsig, program.digest_request(removed, tsig))
+    if vector.asked is None:
+        check_mac(vector, tsig, program.digest_request(removed, tsig))
+        check_reply(program, tsig, removed)
+    else:
+        check_mac(vector, tsig, program.digest_reply(removed, tsig, vector.asked))
     check_finished(program, vector, tsig, removed)
-    check_reply(program, tsig, removed)
 
 
 def main(path, *files):

@@ -1,6 +1,6 @@
--- A signed query that a real client sent (vectors/clients/dig.hex, dig-02), through the five calls of 02, CR 3, computed: its digest, the message finished,
--- read back and bare again; and each refusal, in order. The HMAC-SHA256 of `digest` under the key's secret is `mac`: tests/run computes that for every message
--- of the vectors. Assumes nothing.
+-- A signed query that a real client sent (vectors/clients/dig.hex, dig-02) and a reply of a real server, through the calls of 02, CR 3, computed: what is under
+-- their MACs, the query finished, read back and bare again; and each refusal, in order. The HMAC-SHA256 of `digest` under the key's secret is `mac`: tests/run
+-- computes that for every message of the vectors. Assumes nothing.
 use Prim.Native.Nat.{ℕ, _^_}
 use mathlib.Core.Path.{_≡_, refl}
 use mathlib.Core.Option.{some}
@@ -47,6 +47,40 @@ digest =
     242 ∷ 141 ∷ 0 ∷ 32 ∷ 0 ∷ 1 ∷ 0 ∷ 0 ∷ 0 ∷ 0 ∷ 0 ∷ 0 ∷ 1 ∷ 122 ∷ 7 ∷ 101 ∷ 120 ∷ 97 ∷ 109 ∷ 112 ∷ 108 ∷ 101 ∷ 0 ∷ 0 ∷ 6 ∷ 0 ∷ 1 ∷ 1 ∷ 49 ∷ 1 ∷ 97 ∷ 7 ∷ 101 ∷ 120 ∷ 97 ∷ 109 ∷ 112 ∷ 108 ∷ 101 ∷ 0 ∷
     0 ∷ 255 ∷ 0 ∷ 0 ∷ 0 ∷ 0 ∷ 11 ∷ 104 ∷ 109 ∷ 97 ∷ 99 ∷ 45 ∷ 115 ∷ 104 ∷ 97 ∷ 50 ∷ 53 ∷ 54 ∷ 0 ∷ 0 ∷ 0 ∷ 106 ∷ 249 ∷ 196 ∷ 138 ∷ 1 ∷ 44 ∷ 0 ∷ 0 ∷ 0 ∷ 0 ∷ []
 
+-- A reply that a real server sent (vectors/servers/knotd.hex, knotd-06), without its TSIG: BADTIME, so that other data has the server's time. It answers a request
+-- with the MAC `asked`. The HMAC-SHA256 of `underReply` under the key's secret is `replyMac`.
+abbrev asked : List ℕ
+asked =
+    207 ∷ 244 ∷ 178 ∷ 117 ∷ 197 ∷ 247 ∷ 156 ∷ 62 ∷ 50 ∷ 36 ∷ 108 ∷ 174 ∷ 33 ∷ 57 ∷ 87 ∷ 104 ∷ 1 ∷ 89 ∷ 246 ∷ 250 ∷ 202 ∷ 53 ∷ 227 ∷ 216 ∷ 238 ∷ 35 ∷ 78 ∷ 160 ∷ 82 ∷ 177 ∷ 92 ∷ 31 ∷ []
+
+abbrev reply : List ℕ
+reply =
+    75 ∷ 17 ∷ 129 ∷ 9 ∷ 0 ∷ 1 ∷ 0 ∷ 0 ∷ 0 ∷ 0 ∷ 0 ∷ 1 ∷ 1 ∷ 122 ∷ 7 ∷ 101 ∷ 120 ∷ 97 ∷ 109 ∷ 112 ∷ 108 ∷ 101 ∷ 0 ∷ 0 ∷ 6 ∷ 0 ∷ 1 ∷ 0 ∷ 0 ∷ 41 ∷ 4 ∷ 208 ∷ 0 ∷ 0 ∷ 0 ∷ 0 ∷ 0 ∷ 0 ∷ []
+
+abbrev replyMac : List ℕ
+replyMac =
+    141 ∷ 39 ∷ 169 ∷ 133 ∷ 166 ∷ 21 ∷ 80 ∷ 189 ∷ 80 ∷ 167 ∷ 189 ∷ 189 ∷ 6 ∷ 224 ∷ 103 ∷ 176 ∷ 154 ∷ 32 ∷ 60 ∷ 242 ∷ 137 ∷ 46 ∷ 123 ∷ 77 ∷ 189 ∷ 67 ∷ 135 ∷ 147 ∷ 2 ∷ 186 ∷ 200 ∷ 243 ∷ []
+
+abbrev replyStamp : Stamp
+replyStamp =
+    record {
+      algorithm = algorithm;
+      signed = 1794826504;
+      fudge = 300;
+      mac = replyMac;
+      originalId = 19217;
+      error = 18;
+      other = 0 ∷ 0 ∷ 106 ∷ 250 ∷ 239 ∷ 25 ∷ [];
+    }
+
+-- The request's MAC, its length first; the reply; the TSIG variables.
+abbrev underReply : List ℕ
+underReply =
+    0 ∷ 32 ∷ 207 ∷ 244 ∷ 178 ∷ 117 ∷ 197 ∷ 247 ∷ 156 ∷ 62 ∷ 50 ∷ 36 ∷ 108 ∷ 174 ∷ 33 ∷ 57 ∷ 87 ∷ 104 ∷ 1 ∷ 89 ∷ 246 ∷ 250 ∷ 202 ∷ 53 ∷ 227 ∷ 216 ∷ 238 ∷ 35 ∷ 78 ∷ 160 ∷ 82 ∷ 177 ∷ 92 ∷ 31 ∷ 75 ∷ 17 ∷ 129 ∷ 9 ∷ 0 ∷ 1 ∷
+    0 ∷ 0 ∷ 0 ∷ 0 ∷ 0 ∷ 1 ∷ 1 ∷ 122 ∷ 7 ∷ 101 ∷ 120 ∷ 97 ∷ 109 ∷ 112 ∷ 108 ∷ 101 ∷ 0 ∷ 0 ∷ 6 ∷ 0 ∷ 1 ∷ 0 ∷ 0 ∷ 41 ∷ 4 ∷ 208 ∷ 0 ∷ 0 ∷ 0 ∷ 0 ∷ 0 ∷ 0 ∷ 1 ∷ 49 ∷ 1 ∷ 97 ∷ 7 ∷ 101 ∷ 120 ∷ 97 ∷
+    109 ∷ 112 ∷ 108 ∷ 101 ∷ 0 ∷ 0 ∷ 255 ∷ 0 ∷ 0 ∷ 0 ∷ 0 ∷ 11 ∷ 104 ∷ 109 ∷ 97 ∷ 99 ∷ 45 ∷ 115 ∷ 104 ∷ 97 ∷ 50 ∷ 53 ∷ 54 ∷ 0 ∷ 0 ∷ 0 ∷ 106 ∷ 250 ∷ 225 ∷ 8 ∷ 1 ∷ 44 ∷ 0 ∷ 18 ∷ 0 ∷ 6 ∷ 0 ∷ 0 ∷ 106 ∷ 250 ∷
+    239 ∷ 25 ∷ []
+
 -- Every definition of signing opened.
 unfoldable opened : Assembled → Assembled
 unfolding after MACSIZE unassembled tsigData finished canonical variables withId requestDigest replyDigest signable macOk assembled digestedRequest digestedReply finishedIn unread readBack firstRecords butLast removed removedIn
@@ -63,8 +97,8 @@ pub capitals-digest : digestedRequest query capitals stamp 512 ≡ record { numb
 unfolding opened
 capitals-digest = refl
 
--- an empty MAC of the request still has its length in front of a reply
-pub reply-digest : digestedReply (1 ∷ 2 ∷ []) query name stamp 512 ≡ record { number = 0; octets = 0 ∷ 2 ∷ 1 ∷ 2 ∷ digest }
+-- a reply has the request's MAC in front, and an empty one still its length
+pub reply-digest : digestedReply asked reply name replyStamp 512 ≡ record { number = 0; octets = underReply }
 unfolding opened
 reply-digest = refl
 

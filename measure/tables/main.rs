@@ -1,4 +1,4 @@
-// Times the rule check and the search by suffix of the crate tables against plain safe Rust of the same algorithm, on the same table of 64 pairs.
+// Times the rule check and the search by suffix of the crates tables and table_rules against plain safe Rust of the same algorithm, on the same table of 64 pairs.
 // Each figure is the median of several runs; the two sides take turns, and their results are compared.
 use std::hint::black_box;
 use std::time::Instant;

@@ -1,8 +1,8 @@
 -- An adoption moves both to the new key, or neither. Assumes nothing.
 use mathlib.Core.Path.{_≡_, refl, sym, ap, subst, _∙_}
-use mathlib.Core.Bool.{Bool, true, false, cond, not, _&&_}
-use mathlib.Core.Option.{Option, none, some, Option·none-ne-some, Option·some-injective}
-use mathlib.Core.List.{List, [], _++_}
+use mathlib.Core.Bool.{Bool, true, false, not}
+use mathlib.Core.Option.{none, some, Option·none-ne-some, Option·some-injective}
+use mathlib.Core.List.{List}
 use Prim.Native.Nat.{ℕ, _^_, _<_}
 use native.Mathlib.Omega.{arith}
 use lib.Seq.{getD-set-same}
@@ -10,14 +10,12 @@ use Rattle.model.specs.declared.Key.{Key}
 use Rattle.model.specs.declared.Keys.{Keys}
 use Rattle.model.specs.declared.Keys.the-variants.{Empty, Adopted, Renewing}
 use Rattle.model.specs.declared.Table.{Table}
-use Rattle.model.specs.declared.Decision.{Decision}
-use Rattle.model.specs.declared.Decision.the-variants.{Failed, Adopts, Readopts}
+use Rattle.model.specs.declared.Decision.the-variants.{Failed, Adopts}
 use Rattle.model.specs.declared.Asking.the-variants as Asking
 use Rattle.model.specs.declared.Holding.{Holding}
 use Rattle.model.specs.declared.Holding.the-variants as Holding
 use Rattle.model.specs.declared.ResolverKey.{ResolverKey}
 use Rattle.model.specs.declared.Resolver.{Resolver}
-use Rattle.model.specs.declared.SignWith.{SignWith}
 use Rattle.model.specs.Names.{wireName, algorithmName, sameName, keyName}
 use Rattle.model.specs.Tkey.{Old, modeOf, namesOld, oldOf}
 use Rattle.model.specs.Pairs.{withKeys, adoptedKeys, adopted}
@@ -25,7 +23,7 @@ use Rattle.model.specs.Tables.{noPair, pairAt, withPair, withClock, namesOf, ta
 use Rattle.model.specs.Judging.{badKey, badName, adoptedOf, waitingOf, holds, isNamed, isKey, signerOf, heldSuffix, heldPair, adoptionOf, changed}
 use Rattle.model.specs.Replies.{tkeyReply, replyOf, errorOf}
 use Rattle.model.specs.Calls.{holderAt}
-use Rattle.model.specs.Resolver.{nameOf, oldKey, adoptionOctets, adoptedKey, offeredKey, closed, opened, adoptedBy, turn, writtenAdoption, readReply}
+use Rattle.model.specs.Resolver.{nameOf, oldKey, adoptionOctets, adoptedKey, offeredKey, closed, opened, adoptedBy, turn, writtenAdoption}
 use Rattle.model.specs.Exchange.{Ask, adoption, written, signerKey, replyOr, Turn, writingIn, Sides, exchanged, SameKey, Clean, Agree, InTime, Room}
 use Rattle.model.proofs.Tests.{left, not-so, either, by-check}
 use Rattle.model.proofs.NameLaws.{same-sym, key-same}
@@ -39,7 +37,7 @@ use Rattle.agreement.proofs.Exchanged.{sceneOf, Posed, decision, exchan
 use Rattle.agreement.proofs.Found.{same-trans}
 use Rattle.agreement.proofs.Row.{Holds, adopted-held, Waits, offered-held, adopted-serial, waiting-serial}
 use Rattle.agreement.proofs.Served.{signer-adopted, is-key}
-use Rattle.agreement.proofs.Steps.{inside, Scene, stampFor, readIn, asksIn, replyFor, sidesFor, Fine, facts, hears, accepts, repeatedAnswer, repeats, refused, failed}
+use Rattle.agreement.proofs.Steps.{inside, Scene, stampFor, readIn, asksIn, sidesFor, Fine, facts, hears, accepts, repeatedAnswer, repeats, refused, failed}
 use Rattle.agreement.proofs.Writes.{Adoption, wrote-adoption, adopted-is, offered-is}
 
 -- Both have this key and no other.

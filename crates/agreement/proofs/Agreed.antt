@@ -1,6 +1,6 @@
 -- One exchange keeps agreement, and so does any list of them. Assumes nothing.
 use mathlib.Core.Path.{_≡_, refl, sym, ap, subst, _∙_}
-use mathlib.Core.Bool.{Bool, true, false}
+use mathlib.Core.Bool.{true, false}
 use mathlib.Core.List.{List, [], _∷_}
 use Prim.Native.Nat.{ℕ}
 use Rattle.model.specs.declared.Asking.{Asking}
@@ -9,15 +9,14 @@ use Rattle.model.specs.declared.OpenRequest.{OpenRequest}
 use Rattle.model.specs.declared.OpenRequest.the-variants as OpenRequest
 use Rattle.model.specs.declared.Table.{Table}
 use Rattle.model.specs.declared.Resolver.{Resolver}
-use Rattle.model.specs.declared.Heard.{Heard}
 use Rattle.model.specs.Octets.{reads}
 use Rattle.model.specs.Messages.{Message, readMessage}
 use Rattle.model.specs.Tkey.{tkeyRequest}
 use Rattle.model.specs.Tables.{tableRules}
 use Rattle.model.specs.Calls.{message, called}
-use Rattle.model.specs.Resolver.{adoptedKey, offeredKey, opened, closed, noted, Writing, accepted, readReply}
+use Rattle.model.specs.Resolver.{adoptedKey, offeredKey, opened, closed, noted, accepted}
 use Rattle.model.specs.Exchange.{Ask, renewal, adoption, deletion, ordinary, wrote, written, Ordinary, Turn, writingIn, requestIn, servedIn, replyIn, heardIn, Sides, exchanged, Clean, AllClean, Agree, AllAgree}
-use Rattle.agreement.proofs.Hearing.{Taken, taken, ordinary-still}
+use Rattle.agreement.proofs.Hearing.{taken, ordinary-still}
 use Rattle.agreement.proofs.Served.{rules}
 use Rattle.agreement.proofs.Exchanged.{callIn}
 use Rattle.agreement.proofs.Still.{Same, same}

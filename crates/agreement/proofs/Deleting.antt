@@ -1,18 +1,13 @@
 -- A deletion leaves both without a key, or neither moves. Assumes nothing.
-use mathlib.Core.Path.{_≡_, refl, sym, ap, subst, _∙_}
-use mathlib.Core.Bool.{Bool, true, false, cond, _&&_}
-use mathlib.Core.Option.{Option, none, some, Option·some-injective}
-use mathlib.Core.List.{List, []}
-use Prim.Native.Nat.{ℕ, _^_, _<_}
-use native.Mathlib.Omega.{arith}
-use lib.ListN.{length}
+use mathlib.Core.Path.{_≡_, refl, sym, ap, _∙_}
+use mathlib.Core.Bool.{true}
+use mathlib.Core.Option.{none, some, Option·some-injective}
+use mathlib.Core.List.{[]}
+use Prim.Native.Nat.{ℕ}
 use lib.Seq.{getD-set-same}
 use Rattle.model.specs.declared.Key.{Key}
-use Rattle.model.specs.declared.Keys.the-variants.{Empty}
-use Rattle.model.specs.declared.Pair.{Pair}
 use Rattle.model.specs.declared.Table.{Table}
-use Rattle.model.specs.declared.Decision.{Decision}
-use Rattle.model.specs.declared.Decision.the-variants.{Failed, Deletes}
+use Rattle.model.specs.declared.Decision.the-variants.{Deletes}
 use Rattle.model.specs.declared.Asking.the-variants as Asking
 use Rattle.model.specs.declared.ResolverKey.{ResolverKey}
 use Rattle.model.specs.declared.Resolver.{Resolver}
@@ -20,13 +15,13 @@ use Rattle.model.specs.declared.SignWith.the-variants as SignWith
 use Rattle.model.specs.Names.{wireName}
 use Rattle.model.specs.Tkey.{Old, modeOf, namesOld, oldOf}
 use Rattle.model.specs.Pairs.{withKeys, deleted}
-use Rattle.model.specs.Tables.{noPair, pairAt, withPair, withClock, namesOf, tableRules}
-use Rattle.model.specs.Judging.{badName, adoptedOf, waitingOf, holds, isNamed, signerOf, heldSuffix, heldPair, step9, deletionOf, changed}
+use Rattle.model.specs.Tables.{noPair, pairAt, withPair, withClock, tableRules}
+use Rattle.model.specs.Judging.{badName, holds, isNamed, signerOf, heldSuffix, heldPair, deletionOf, changed}
 use Rattle.model.specs.Replies.{tkeyReply, replyOf, errorOf}
 use Rattle.model.specs.Calls.{holderAt}
-use Rattle.model.specs.Resolver.{nameOf, deletionOctets, adoptedKey, offeredKey, keyless, closed, opened, writtenDeletion, movedBy}
+use Rattle.model.specs.Resolver.{nameOf, deletionOctets, adoptedKey, offeredKey, keyless, closed, writtenDeletion}
 use Rattle.model.specs.Exchange.{Ask, deletion, written, replyOr, Turn, writingIn, Sides, exchanged, Clean, Agree}
-use Rattle.model.proofs.Tests.{either, by-check, differs}
+use Rattle.model.proofs.Tests.{either, differs}
 use Rattle.model.proofs.Rows.{suffix}
 use Rattle.agreement.proofs.Asked.{Request, bare, stampedBy, tkeyIn}
 use Rattle.agreement.proofs.Decided.{decided}

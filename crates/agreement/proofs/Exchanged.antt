@@ -1,7 +1,7 @@
 -- An exchange is what its pair's row decides, and what the resolver hears of that. Assumes nothing.
 use mathlib.Core.Path.{_≡_, refl, sym, ap, subst, _∙_}
 use mathlib.Core.Bool.{Bool, true, false}
-use mathlib.Core.Option.{Option, some}
+use mathlib.Core.Option.{some}
 use mathlib.Core.List.{List}
 use Prim.Native.Nat.{ℕ, _^_, _<_}
 use lib.Dec.{leb, ltb}
@@ -17,11 +17,11 @@ use Rattle.model.specs.Octets.{reads}
 use Rattle.model.specs.Names.{wireName, sameName, algorithmName, afterLabel}
 use Rattle.model.specs.Messages.{readMessage}
 use Rattle.model.specs.Tsig.{signed, signature}
-use Rattle.model.specs.Tables.{namesOf, pairAt, withPair, withClock, suffixAt, tableRules}
+use Rattle.model.specs.Tables.{namesOf, pairAt, withPair, withClock}
 use Rattle.model.specs.Tkey.{modeOf, namesOld}
 use Rattle.model.specs.Judging.{Holder, Given, adoptedOf, heldSuffix, heldPair, inTime, isOff, step9, renewalOf, adoptionOf, deletionOf, judge, changed}
 use Rattle.model.specs.Replies.{replyOf, errorOf}
-use Rattle.model.specs.Calls.{DONE, Result, refusal, unchanged, sizeOk, roomFor, gate, timeOf, signedBy, replyTo, holderAt, replied, served as served-by, called}
+use Rattle.model.specs.Calls.{DONE, Result, refusal, unchanged, sizeOk, roomFor, gate, timeOf, signedBy, replyTo, holderAt, replied, served as served-by}
 use Rattle.model.specs.Resolver.{nameOf, Writing, readReply}
 use Rattle.model.specs.Signing.{finished}
 use Rattle.model.specs.Exchange.{stamped, Turn, signerKey, replyOr, writingIn, signerIn, requestIn, servedIn, replyIn, heardIn, Sides, exchanged, SameKey, Agree, InTime, Room}
@@ -32,7 +32,7 @@ use Rattle.guarantees.specs.Freshness.{Ask, asks}
 use Rattle.printed.specs.Printed.{messageShown}
 use Rattle.printed.proofs.Names.{algorithm-wire}
 use Rattle.agreement.proofs.Found.{after-key, row-found}
-use Rattle.agreement.proofs.Asked.{stampedBy, Signs, Request, octetsOf, keyOf, tkeyIn, messageBy, request-read, Asked, request-asked}
+use Rattle.agreement.proofs.Asked.{stampedBy, Signs, Request, octetsOf, keyOf, tkeyIn, request-read, request-asked}
 use Rattle.agreement.proofs.Decided.{passes}
 use Rattle.agreement.proofs.Served.{served, signer-found}
 use Rattle.agreement.proofs.Steps.{Scene, stampFor, readIn, asksIn, replyFor, sidesFor, Fine}

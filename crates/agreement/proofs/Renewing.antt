@@ -1,17 +1,16 @@
 -- A renewal gives both the same new key, or neither moves. Assumes nothing.
 use mathlib.Core.Path.{_≡_, refl, sym, ap, ap₂, subst, _∙_}
-use mathlib.Core.Bool.{Bool, true, false, cond, not, _&&_}
-use mathlib.Core.Option.{Option, none, some, Option·none-ne-some, Option·some-injective}
+use mathlib.Core.Bool.{true, false, not}
+use mathlib.Core.Option.{Option, some, Option·none-ne-some, Option·some-injective}
 use mathlib.Core.List.{List, [], _∷_, _++_, append-nil}
 use Prim.Native.Nat.{ℕ, _%_, _^_, _<_}
 use native.Mathlib.Omega.{arith}
 use borrow.Author.Tests.{ltb-true, lt-ltb, ne-eqb}
 use lib.Dec.{ltb, eqb}
-use lib.ListN.{length, take, replicate}
+use lib.ListN.{length, replicate}
 use lib.Seq.{getD-set-same}
 use Rattle.model.specs.declared.Algorithm.{Algorithm}
 use Rattle.model.specs.declared.Algorithm.the-variants.{Sha256, Sha384, Sha512}
-use Rattle.model.specs.declared.Named.{Named}
 use Rattle.model.specs.declared.Named.the-variants.{Known}
 use Rattle.model.specs.declared.Key.{Key}
 use Rattle.model.specs.declared.Keys.{Keys}
@@ -27,7 +26,6 @@ use Rattle.model.specs.declared.Holding.the-variants as Holding
 use Rattle.model.specs.declared.ResolverKey.{ResolverKey}
 use Rattle.model.specs.declared.Resolver.{Resolver}
 use Rattle.model.specs.declared.SignWith.the-variants as SignWith
-use Rattle.model.specs.Octets.{put}
 use Rattle.model.specs.Names.{lowerOf, sameName, wireName, algorithmName, algorithmNamed, keyName}
 use Rattle.model.specs.Tsig.{anyClass}
 use Rattle.model.specs.Tkey.{Old, tkeyType, keyType, modeOf, namesOld, oldOf}
@@ -37,14 +35,14 @@ use Rattle.model.specs.Judging.{formErr, servFail, badKey, badAlg, badTime, ado
 use Rattle.model.specs.Replies.{heading, recordOctets, tkeyRecord, granted, echoed, renewedReply, replyOf, errorOf}
 use Rattle.model.specs.Calls.{holderAt}
 use Rattle.model.specs.Resolver.{nameOf, oldKey, usable, adoptedKey, offeredKey, closed, opened, TkeyAnswer, offeredBy, renewedIn, rootOr, requestOctets, renewalOctets, writtenRenewal, readReply}
-use Rattle.model.specs.Exchange.{Ask, renewal, written, replyOr, Ordinary, Turn, writingIn, requestIn, Sides, exchanged, SameKey, Clean, Agree, InTime, Room}
-use Rattle.model.proofs.Tests.{left, by-check, by-some, by-known}
+use Rattle.model.specs.Exchange.{Ask, renewal, written, replyOr, Ordinary, Turn, writingIn, requestIn, Sides, exchanged, Clean, Agree, InTime, Room}
+use Rattle.model.proofs.Tests.{left, by-check, by-known}
 use Rattle.model.proofs.Rows.{suffix}
 use Rattle.octets.proofs.Back.{put-front}
 use Rattle.printed.proofs.Names.{algorithm-wire, key-wire}
 use Rattle.printed.proofs.Records.{KeyEntry, key-read}
 use Rattle.printed.proofs.Contents.{old-back}
-use Rattle.agreement.proofs.Asked.{Request, keyed, keyOf, keyRecord, stampedBy, tkeyIn, dataOf}
+use Rattle.agreement.proofs.Asked.{Request, keyed, keyOf, stampedBy, tkeyIn, dataOf}
 use Rattle.agreement.proofs.Answered.{heading-octets, echo, Answer, answerEntry, replyBy}
 use Rattle.agreement.proofs.Decided.{decided}
 use Rattle.agreement.proofs.Exchanged.{sceneOf, Posed, decision, heard-is, exchanged-is, by-decision, decision-is, serves, sized}

@@ -1,8 +1,8 @@
 -- The row that agrees with the resolver: its keys, their serials, and its suffix. Assumes nothing.
-use mathlib.Core.Path.{_≡_, refl, sym, ap, _∙_}
-use mathlib.Core.Bool.{Bool, true}
+use mathlib.Core.Path.{_≡_, refl, ap}
+use mathlib.Core.Bool.{true}
 use mathlib.Core.Option.{Option, none, some, Option·none-ne-some, Option·some-injective}
-use mathlib.Core.List.{List, [], _∷_}
+use mathlib.Core.List.{[], _∷_}
 use Prim.Native.Nat.{ℕ, _^_, _≤_, _<_}
 use native.Mathlib.Omega.{arith}
 use lib.Dec.{leb}
@@ -10,7 +10,6 @@ use lib.ListN.{length, getD, length-take}
 use Rattle.model.specs.declared.Key.{Key}
 use Rattle.model.specs.declared.Keys.{Keys}
 use Rattle.model.specs.declared.Keys.the-variants.{Empty, Adopted, Renewing}
-use Rattle.model.specs.declared.Pair.{Pair}
 use Rattle.model.specs.declared.Table.{Table}
 use Rattle.model.specs.declared.ResolverKey.{ResolverKey}
 use Rattle.model.specs.Octets.{part}

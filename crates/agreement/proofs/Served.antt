@@ -2,7 +2,6 @@
 use mathlib.Core.Path.{_≡_, refl, sym, ap, _∙_}
 use mathlib.Core.Bool.{Bool, true, false}
 use mathlib.Core.Option.{Option, none, some, Option·none-ne-some, Option·some-injective}
-use mathlib.Core.List.{List}
 use Prim.Native.Nat.{ℕ, suc, _<_}
 use native.Mathlib.Omega.{arith}
 use Rattle.model.specs.declared.Key.{Key}
@@ -13,15 +12,15 @@ use Rattle.model.specs.Names.{sameName, algorithmName, keyName, afterLabel}
 use Rattle.model.specs.Messages.{Message, readMessage}
 use Rattle.model.specs.Tsig.{Tsig, signed, signature}
 use Rattle.model.specs.Tables.{pairAt, withPair, withClock, namesOf, tableRules}
-use Rattle.model.specs.Judging.{Given, Holder, holder, adoptedOf, keyIf, isNamed, isKey, signerOf, judge, changed}
+use Rattle.model.specs.Judging.{adoptedOf, keyIf, isNamed, isKey, signerOf, judge, changed}
 use Rattle.model.specs.Replies.{replyOf}
-use Rattle.model.specs.Calls.{SIZE, TABLE, TIME, CLOCK, Result, unchanged, refusal, sizeOk, timeFits, timeGoesOn, timeGate, gate, Call, message, timeOf, octetsOwner, ownerOf, holderAt, replied, called, stepOf, messageStep}
+use Rattle.model.specs.Calls.{SIZE, TABLE, TIME, CLOCK, Result, unchanged, refusal, sizeOk, timeFits, timeGoesOn, gate, timeOf, octetsOwner, ownerOf, holderAt, replied, called}
 use Rattle.model.specs.Resolver.{nameOf}
 use Rattle.model.specs.Exchange.{SameKey}
 use Rattle.model.proofs.Tests.{both, either, by-check}
 use Rattle.model.proofs.Rows.{suffix}
 use Rattle.model.proofs.CallLaws.{refused-first, passes-first, message-size}
-use Rattle.guarantees.specs.Freshness.{Ask, asks, Decides}
+use Rattle.guarantees.specs.Freshness.{Ask, asks}
 use Rattle.guarantees.proofs.Freshness.{is-done}
 use Rattle.guarantees.proofs.OneCall.{pass-rules}
 use Rattle.agreement.proofs.Found.{same-refl, row-found}

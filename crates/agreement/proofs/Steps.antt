@@ -1,15 +1,13 @@
 -- One exchange, by what the server decides: where it refuses or fails the request, neither side moves. Assumes nothing.
 use mathlib.Core.Path.{_≡_, refl, sym, ap, _∙_}
-use mathlib.Core.Bool.{Bool, true, false, cond, _&&_}
+use mathlib.Core.Bool.{Bool, true, false}
 use mathlib.Core.Option.{Option, none, some, Option·none-ne-some}
-use mathlib.Core.List.{List, [], _∷_, _++_, append-assoc, append-nil}
+use mathlib.Core.List.{List, [], _∷_, _++_, append-nil}
 use Prim.Native.Nat.{ℕ, _%_, _<_}
 use native.Mathlib.Decide.{decLt}
 use native.Mathlib.Omega.{arith}
 use borrow.Author.Tests.{ne-eqb}
-use lib.Dec.{eqb}
 use lib.ListN.{length, List·getD-eq-default}
-use lib.Seq.{getD-set-same}
 use Rattle.model.specs.declared.Key.{Key}
 use Rattle.model.specs.declared.Pair.{Pair}
 use Rattle.model.specs.declared.Table.{Table}
@@ -21,17 +19,17 @@ use Rattle.model.specs.declared.Resolver.{Resolver}
 use Rattle.model.specs.Names.{wireName, algorithmName}
 use Rattle.model.specs.Messages.{Message}
 use Rattle.model.specs.Tsig.{anyClass}
-use Rattle.model.specs.Tkey.{Tkey, tkeyType, onlyTkey}
+use Rattle.model.specs.Tkey.{tkeyType}
 use Rattle.model.specs.Tables.{noPair, pairAt, withPair, withClock, namesOf}
 use Rattle.model.specs.Judging.{Given, adoptedOf, waitingOf, changed}
 use Rattle.model.specs.Replies.{heading, tkeyRecord, repeated, rcodeReply, tkeyReply, replyOf, errorOf}
 use Rattle.model.specs.Calls.{sizeOk, holderAt}
-use Rattle.model.specs.Resolver.{nameOf, adoptedKey, offeredKey, opened, closed, TkeyAnswer, isMode, movedBy, rcodeOf, readReply}
+use Rattle.model.specs.Resolver.{nameOf, adoptedKey, offeredKey, opened, closed, isMode, movedBy, rcodeOf, readReply}
 use Rattle.model.specs.Signing.{Stamp, finished}
 use Rattle.model.specs.Exchange.{stamped, Sides, SameKey, SameAdopted, OfferedWaits, Agree}
 use Rattle.model.proofs.Tests.{and-false}
 use Rattle.model.proofs.CallLaws.{same-row}
-use Rattle.printed.specs.Printed.{Entry, allOctets, messageOctets, messageShown}
+use Rattle.printed.specs.Printed.{messageOctets}
 use Rattle.printed.proofs.Names.{algorithm-wire}
 use Rattle.printed.proofs.Messages.{finished-message}
 use Rattle.agreement.proofs.Asked.{stampedBy, tsigEntry, Signs, Request, keyOf, messageBy, tkeyIn, Asked, request-asked}

@@ -1,6 +1,6 @@
 -- An ordinary message changes no pair. Assumes nothing.
-use mathlib.Core.Path.{_≡_, refl, sym, ap, _∙_}
-use mathlib.Core.Bool.{Bool, true, false, cond, not, _&&_}
+use mathlib.Core.Path.{_≡_, refl, ap, _∙_}
+use mathlib.Core.Bool.{Bool, true, false, not, _&&_}
 use mathlib.Core.Option.{Option, none, some}
 use mathlib.Core.List.{List}
 use Prim.Native.Nat.{ℕ}
@@ -13,10 +13,10 @@ use Rattle.model.specs.Octets.{reads}
 use Rattle.model.specs.Names.{outputOf}
 use Rattle.model.specs.Messages.{Message, readMessage}
 use Rattle.model.specs.Tsig.{Tsig, Signature, unsigned, misplaced, signed, signature}
-use Rattle.model.specs.Tkey.{tkeyRequest, contentsOf, onlyTkey, onlyKey}
+use Rattle.model.specs.Tkey.{tkeyRequest, contentsOf}
 use Rattle.model.specs.Tables.{pairAt, withPair, withClock, namesOf}
-use Rattle.model.specs.Judging.{Holder, nobody, holder, heldNumber, heldSuffix, heldPair, signerOf, Judged, unknown, Given, inTime, step1, step2, step3, step4, step5, step6, step7, step8, macFits, isOff, isRevoked, decideTkey, decide, judgeRead, judge, changed}
-use Rattle.model.specs.Calls.{Result, SIZE, OFFER, FORMAT, NOTQUERY, ROOM, Step, refuses, leaves, sizeOk, offerOk, roomFor, replyTo, replied, answered, messageStep, Call, message, timeOf, stepOf, holderAt, servedBy, served, unchanged, clockAt, gate, passed, called, ownerOf}
+use Rattle.model.specs.Judging.{Holder, heldNumber, heldSuffix, heldPair, signerOf, Judged, unknown, Given, inTime, step1, step2, step3, step4, step5, step7, step8, macFits, isOff, isRevoked, decide, judgeRead, judge, changed}
+use Rattle.model.specs.Calls.{SIZE, OFFER, FORMAT, NOTQUERY, ROOM, Step, refuses, leaves, sizeOk, offerOk, roomFor, replyTo, replied, answered, messageStep, Call, message, timeOf, stepOf, holderAt, servedBy, served, unchanged, gate, passed, called, ownerOf}
 use Rattle.model.proofs.Tests.{either, by-check, by-read}
 use Rattle.model.proofs.CallLaws.{same-row}
 

@@ -1,6 +1,6 @@
 -- Two exchanges on the table of 01's day, for `Agreement`: renewal, adoption and an ordinary message; and an adoption whose reply is lost. Assumes nothing.
 use Prim.Native.Nat.{ℕ}
-use mathlib.Core.Bool.{Bool, true, false}
+use mathlib.Core.Bool.{true, false}
 use mathlib.Core.List.{List, [], _∷_, _++_}
 use lib.ListN.{length, replicate}
 use Rattle.model.specs.declared.Algorithm.the-variants.{Sha256}
@@ -10,7 +10,6 @@ use Rattle.model.specs.declared.Holding.the-variants.{Adopted}
 use Rattle.model.specs.declared.OpenRequest.the-variants.{Nothing}
 use Rattle.model.specs.declared.Table.{Table}
 use Rattle.model.specs.declared.ResolverKey.{ResolverKey}
-use Rattle.model.specs.declared.Resolver.{Resolver}
 use Rattle.model.specs.Octets.{put}
 use Rattle.model.specs.Names.{keyName}
 use Rattle.model.specs.Tables.{pairAt}
@@ -18,7 +17,7 @@ use Rattle.model.specs.Calls.{emptyTable}
 use Rattle.model.specs.Runs.{enrol}
 use Rattle.model.specs.Resolver.{nameOf}
 use Rattle.model.specs.Signing.{Stamp}
-use Rattle.model.specs.Exchange.{Ask, renewal, adoption, ordinary, Turn, writingIn, servedIn, Sides, exchanged}
+use Rattle.model.specs.Exchange.{Ask, renewal, adoption, ordinary, Turn, writingIn, servedIn, Sides}
 use Rattle.model.proofs.Requests.{suffix, header, rootQuery, keyRecord}
 use Rattle.model.proofs.Running.{after}
 

@@ -8,13 +8,13 @@ use Rattle.model.specs.declared.Span.{Span}
 use Rattle.model.specs.Octets.{u16At, part, reads}
 use Rattle.model.specs.Messages.{Record, recordAt}
 use Rattle.model.specs.Resolver.{answerIn}
-use Rattle.messages.specs.declared.Found.{Found}
-use Rattle.messages.specs.declared.Found.the-variants.{Bad, At}
+use Rattle.records.specs.declared.Found.{Found}
+use Rattle.records.specs.declared.Found.the-variants.{Bad, At}
 use Rattle.messages.specs.declared.Kept.{Kept}
 use Rattle.messages.specs.declared.Kept.the-variants.{Once}
-use Rattle.messages.specs.Record.{Within, cut, shown as shownRecord, RecordRead as Read}
+use Rattle.records.specs.Record.{Within, cut, shown as shownRecord, RecordRead as Read}
 use Rattle.messages.specs.Scan.{keyBy}
-use Rattle.messages.proofs.Parts.{part-length, part-part}
+use Rattle.records.proofs.Parts.{part-length, part-part}
 use Rattle.tkey.specs.declared.Layout.{Layout}
 use Rattle.tkey.specs.declared.Layout.the-variants.{Ill, Fields}
 use Rattle.tkey.specs.Fields.{answerLaidOut, LayoutRead}

@@ -8,7 +8,7 @@ use Rattle.model.specs.Octets.{u16At, u32At}
 use Rattle.model.specs.Messages.{recordAt}
 use Rattle.model.specs.Resolver.{TkeyAnswer, answerIn}
 use Rattle.messages.specs.declared.Kept.{Kept}
-use Rattle.messages.specs.Record.{Within, cut}
+use Rattle.records.specs.Record.{Within, cut}
 use Rattle.messages.specs.Scan.{keyBy, keyAt}
 use Rattle.answers.specs.declared.AnswerFields.{AnswerFields}
 use Rattle.answers.specs.declared.AnswerFound.{AnswerFound}

@@ -1,7 +1,7 @@
 // The TKEY of a reply (RFC 2930, 2; 02, CR 1): reads what a pass over the answer section kept the place of.
-use messages::Found;
 use messages::Kept;
 use model::Span;
+use records::Found;
 use tkey::Layout;
 ghost use Prim.Native.Nat.{_+_, _≤_};
 ghost use lib.ListN.{length};
@@ -43,7 +43,7 @@ fn fields_of(d: &[u8], start: usize, next: usize) -> AnswerFields
 fn answer_at(m: &[u8], owner: &mut [u8; 255], place: usize) -> AnswerFound
     ensures { λ r. ⌜ RecordRead (now (m .entry)) place (now (owner .exit)) r ⌝ }
 {
-    match messages::expand_record(m, owner, place) {
+    match records::expand_record(m, owner, place) {
         Found::Bad(_) => AnswerFound::Nothing,
         Found::At {
             len: name,
@@ -53,7 +53,7 @@ fn answer_at(m: &[u8], owner: &mut [u8; 255], place: usize) -> AnswerFound
             content,
         } => {
             let start = content.from;
-            let d = messages::part_of(m, content);
+            let d = records::part_of(m, content);
             match tkey::layout_of(d) {
                 Layout::Ill => AnswerFound::Nothing,
                 Layout::Fields {

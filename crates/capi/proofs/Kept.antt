@@ -22,7 +22,7 @@ use Rattle.model.proofs.Tests.{by-check, by-known}
 use Rattle.guarantees.proofs.Refusals.{demand1}
 use Rattle.image.proofs.RoundTrip.{round-trip}
 use Rattle.image.proofs.Held.{Octets, no-octets, more-octets, held-sized, clock-set}
-use Rattle.server.proofs.Laws.{short-octets}
+use Rattle.operator.proofs.Laws.{short-octets}
 use Rattle.capi.specs.Served.{stored, imageAfter, newAnswer, newImage}
 use Rattle.capi.specs.Kept.{suffixOf, Kept}
 

@@ -13,8 +13,8 @@ use Rattle.model.specs.Image.{imageOf, tableOf}
 use Rattle.image.specs.declared.Decoded.{Decoded}
 use Rattle.image.specs.Read.{decodedAs}
 use Rattle.image.proofs.Held.{holds}
-use Rattle.server.specs.declared.Outcome.{Outcome}
-use Rattle.server.specs.Shown.{shown}
+use Rattle.outcomes.specs.declared.Outcome.{Outcome}
+use Rattle.outcomes.specs.Shown.{shown}
 use Rattle.capi.specs.Served.{Told, stored, answerOf, imageAfter, replyAfter, Served, newAnswer, newImage, Made}
 
 -- The same answer is told.

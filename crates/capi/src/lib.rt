@@ -2,7 +2,7 @@
 // declares them. Each takes every value of every argument, writes its answer in six words (number, length, TSIG error, skew, pair, serial) and
 // returns the number. An image that holds no table is TABLE (1); a refusal stores the clock in the image and changes nothing else of what is lent.
 use model::Answer;
-use server::Outcome;
+use outcomes::Outcome;
 ghost use mathlib.Core.Path.{_≡_};
 ghost use lib.ListN.{length};
 ghost use Rattle.model.specs.Calls.{refusal, enrolOn, issueOn, revokeOn, lookOn, messageOn};
@@ -60,7 +60,7 @@ pub extern "C" fn luffcringle_new_table(time: u64, image: &mut [u64], answer: &m
     if image.len() != 2050 {
         return refuse(answer, 1);
     }
-    let o = server::new_table(time);
+    let o = operator::new_table(time);
     let a = o.answer;
     if a.number != 0 {
         return tell(answer, a);
@@ -88,7 +88,7 @@ pub extern "C" fn luffcringle_enrol(
         return refuse(answer, 1);
     }
     let t = d.table;
-    let o = server::enrol(t, time, suffix, lifetime, fresh, algorithm);
+    let o = operator::enrol(t, time, suffix, lifetime, fresh, algorithm);
     settle(image, answer, o)
 }
 
@@ -108,7 +108,7 @@ pub extern "C" fn luffcringle_issue(
         return refuse(answer, 1);
     }
     let t = d.table;
-    let o = server::issue(t, time, pair, algorithm);
+    let o = operator::issue(t, time, pair, algorithm);
     settle(image, answer, o)
 }
 
@@ -127,7 +127,7 @@ pub extern "C" fn luffcringle_revoke(
         return refuse(answer, 1);
     }
     let t = d.table;
-    let o = server::revoke(t, time, pair);
+    let o = operator::revoke(t, time, pair);
     settle(image, answer, o)
 }
 
@@ -141,7 +141,7 @@ pub extern "C" fn luffcringle_look(image: &[u64], message: &[u8], answer: &mut [
         return refuse(answer, 1);
     }
     let t = d.table;
-    let o = server::look(t, message);
+    let o = looking::look(t, message);
     let a = o.answer;
     tell(answer, a)
 }

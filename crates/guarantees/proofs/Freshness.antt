@@ -4,11 +4,11 @@ use mathlib.Core.Bool.{Bool, true, false, cond}
 use mathlib.Core.Option.{Option, none, some, Option·none-ne-some, Option·some-injective}
 use mathlib.Core.Logic.{_⊎_, inl, inr}
 use mathlib.Core.List.{List, [], _∷_, List·Memᴰ, List·Memᴰ·head, List·Memᴰ·tail}
-use Prim.Native.Nat.{ℕ, suc, _+_, _^_, _≤_, _<_}
+use Prim.Native.Nat.{ℕ, suc, _+_, _≤_, _<_}
 use native.Mathlib.Nat.{le-refl}
 use native.Mathlib.Omega.{arith}
 use lib.Dec.{ltb}
-use lib.ListN.{length, getD, length-replicate}
+use lib.ListN.{length, length-replicate}
 use lib.Seq.{getD-set-same}
 use borrow.Author.Tests.{ltb-true, lt-ltb}
 use Rattle.model.specs.declared.Algorithm.{Algorithm}
@@ -19,22 +19,22 @@ use Rattle.model.specs.declared.Pair.{Pair}
 use Rattle.model.specs.declared.Table.{Table}
 use Rattle.model.specs.declared.Decision.{Decision}
 use Rattle.model.specs.declared.Decision.the-variants.{Renews, Adopts}
-use Rattle.model.specs.Octets.{Reading, stops, reads}
+use Rattle.model.specs.Octets.{reads}
 use Rattle.model.specs.Names.{sameName, keyName}
 use Rattle.model.specs.Messages.{Message, readMessage}
 use Rattle.model.specs.Tsig.{signature}
-use Rattle.model.specs.Pairs.{withKeys, made, revokedKey, renewedKeys, renewed, adoptedKeys, adopted}
-use Rattle.model.specs.Tables.{noPair, pairAt, withPair, withClock, Names, namesOf, suffixAt, namesRule, allFrom, clockRule, tableRules}
-use Rattle.model.specs.Judging.{Holder, holder, heldSuffix, heldPair, adoptedOf, waitingOf, Given, judge, changed}
+use Rattle.model.specs.Pairs.{withKeys, made, renewedKeys, renewed, adoptedKeys, adopted}
+use Rattle.model.specs.Tables.{noPair, pairAt, withPair, withClock, namesOf, namesRule, allFrom, clockRule, tableRules}
+use Rattle.model.specs.Judging.{Holder, heldSuffix, heldPair, adoptedOf, waitingOf, judge, changed}
 use Rattle.model.specs.Replies.{granted, renewedReply, replyOf}
-use Rattle.model.specs.Calls.{TIME, SIZE, OFFER, NOTQUERY, ROOM, Result, refusal, unchanged, timeFits, emptyTable, newTable, freshPair, sizeOk, offerOk, roomFor, replyTo, replied, Call, message, timeOf, signedBy, readBy, octetsOwner, ownerOf, holderAt, served, called}
+use Rattle.model.specs.Calls.{TIME, SIZE, OFFER, NOTQUERY, ROOM, Result, refusal, unchanged, timeFits, emptyTable, newTable, freshPair, sizeOk, offerOk, roomFor, replyTo, replied, timeOf, signedBy, octetsOwner, ownerOf, holderAt, served, called}
 use Rattle.model.specs.Runs.{Operation, enrol, call, operated, operatedAll, Has, keyRaised, keyMade, listed, namesMade, NoneSame, Distinct}
 use Rattle.model.proofs.CallLaws.{passes-first, message-size, message-offer, message-response, message-room, message-done}
 use Rattle.guarantees.specs.Freshness.{after, madeBy, Ask, asks, Decides, Renewed, AtOnce, Demand2}
-use Rattle.model.proofs.Tests.{both, either, by-check}
+use Rattle.model.proofs.Tests.{both, by-check}
 use Rattle.model.proofs.Decisions.{Grantable, Allows, allows}
 use Rattle.model.proofs.NameLaws.{same-sym}
-use Rattle.model.proofs.Rows.{Sized, suffix, next, few}
+use Rattle.model.proofs.Rows.{Sized, suffix, few}
 use Rattle.guarantees.proofs.Made.{Used, Fresh, Grows, fresh-back, Known, Origin, Event, owner-below, call-made}
 use Rattle.guarantees.proofs.Enrolment.{enrol-made}
 

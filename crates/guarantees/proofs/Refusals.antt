@@ -1,21 +1,20 @@
 -- Demand 1, for every call on every table. Assumes nothing.
-use mathlib.Core.Path.{_≡_, refl, sym, ap, ap₂, subst, _∙_}
+use mathlib.Core.Path.{_≡_, refl, sym, ap, subst, _∙_}
 use mathlib.Core.Bool.{Bool, true, false, not, _&&_, _||_}
 use mathlib.Core.Option.{Option, none, some, Option·some-injective, Option·none-ne-some}
 use mathlib.Core.List.{List, [], _∷_}
-use Prim.Native.Nat.{ℕ, zero, suc, _≤_}
+use Prim.Native.Nat.{ℕ, _≤_}
 use native.Mathlib.Omega.{arith}
 use lib.Dec.{leb, ltb, eqb}
 use lib.ListN.{length}
 use borrow.Author.Tests.{leb-true}
 use Rattle.model.specs.declared.Table.{Table}
-use Rattle.model.specs.Octets.{put}
 use Rattle.model.specs.Names.{algorithmNumbered}
 use Rattle.model.specs.Messages.{readMessage}
-use Rattle.model.specs.Tables.{withClock, withPair, namesOf, rowNamed, suffixOk, isNone, termOk, tableRules}
-use Rattle.model.specs.Judging.{Holder, nobody, Given, judge}
+use Rattle.model.specs.Tables.{withClock, namesOf, rowNamed, suffixOk, isNone, termOk, tableRules}
+use Rattle.model.specs.Judging.{Holder, nobody, Given}
 use Rattle.model.specs.Checks.{check}
-use Rattle.model.specs.Calls.{DONE, TABLE, TIME, CLOCK, SIZE, OFFER, FORMAT, NOTQUERY, ROOM, NOPAIR, NOKEY, SPENT, NAME, TERM, TWIN, FULL, Result, refusal, done, unchanged, timeFits, timeGoesOn, timeGate, gate, clockAt, emptyTable, newTable, withRow, enrolled, enrolPassed, enrolOn, Step, refuses, leaves, sizeOk, offerOk, roomFor, replyTo, replied, answered, messageStep, Call, issue, revoke, look, message, timeOf, ownerOf, stepOf, holderAt, servedBy, called, messageOn, bufferAfter}
+use Rattle.model.specs.Calls.{DONE, TABLE, TIME, CLOCK, SIZE, OFFER, FORMAT, NOTQUERY, ROOM, NAME, TERM, TWIN, FULL, Result, refusal, done, unchanged, timeFits, timeGoesOn, timeGate, gate, clockAt, newTable, withRow, enrolled, enrolPassed, enrolOn, Step, refuses, leaves, sizeOk, offerOk, roomFor, replyTo, replied, answered, messageStep, Call, message, timeOf, ownerOf, stepOf, holderAt, servedBy, called, messageOn, bufferAfter}
 use Rattle.model.specs.Runs.{Operation, enrol, call, operated}
 use Rattle.model.proofs.Buffers.{put-length}
 use Rattle.model.proofs.CallLaws.{holderBy, refused-first, passes-first, leaves-it, buffer-refused}

@@ -1,14 +1,14 @@
--- The code. Each public call of the crate server is proved equal to one of these definitions, for every value of its arguments: new_table to `newTable`,
--- enrol to `enrolOn`, issue to `issueOn`, revoke to `revokeOn`, look to `lookOn`, message to `messageOn`, and message's buffer to `bufferAfter`. Here they
--- are what the promises speak of: `operated` of an operation, and for the calls of a run `called`. So what is promised holds of the code, call by call.
--- Assumes nothing.
+-- The code. Each public call of the crates operator, looking and server is proved equal to one of these definitions, for every value of its arguments:
+-- new_table to `newTable`, enrol to `enrolOn`, issue to `issueOn`, revoke to `revokeOn`, look to `lookOn`, message to `messageOn`, and message's buffer to
+-- `bufferAfter`. Here they are what the promises speak of: `operated` of an operation, and for the calls of a run `called`. So what is promised holds of
+-- the code, call by call. Assumes nothing.
 use mathlib.Core.Path.{_≡_}
 use mathlib.Core.Bool.{Bool}
 use mathlib.Core.List.{List}
 use Prim.Native.Nat.{ℕ}
 use Rattle.model.specs.declared.Table.{Table}
 use Rattle.model.specs.Calls.{enrolOn, issue, revoke, look, message, called, issueOn, revokeOn, lookOn, messageOn}
-use Rattle.model.specs.Runs.{enrol, call, operated}
+use Rattle.model.specs.Runs.{enrol, operated}
 
 pub record Bridge : Type 0 where
   pub enrols :

@@ -1,14 +1,13 @@
 -- Demand 2: over any run from a new table no name is made twice, a granted renewal's name is new, an adoption puts the new key in and the old one out in
 -- one step, and the table rules are kept. Assumes nothing.
 use mathlib.Core.Path.{_≡_}
-use mathlib.Core.Bool.{Bool, true}
-use mathlib.Core.Option.{Option, none, some}
+use mathlib.Core.Bool.{true}
+use mathlib.Core.Option.{none, some}
 use mathlib.Core.List.{List, _++_, List·Memᴰ}
 use Prim.Native.Nat.{ℕ, _%_, _<_}
 use Rattle.model.specs.declared.Algorithm.{Algorithm}
 use Rattle.model.specs.declared.Key.{Key}
 use Rattle.model.specs.declared.Keys.the-variants.{Adopted, Renewing}
-use Rattle.model.specs.declared.Pair.{Pair}
 use Rattle.model.specs.declared.Table.{Table}
 use Rattle.model.specs.declared.Decision.{Decision}
 use Rattle.model.specs.declared.Decision.the-variants.{Renews, Adopts}

@@ -1,6 +1,6 @@
 -- Demand 3: the pairs of a table are kept apart over any run of issue, revoke early, look and message whose times never go back. Assumes nothing.
 use mathlib.Core.Path.{_≡_}
-use mathlib.Core.Option.{Option, some}
+use mathlib.Core.Option.{some}
 use mathlib.Core.List.{List, map}
 use Prim.Native.Nat.{ℕ, _<_}
 use lib.ListN.{getElem?}

@@ -1,6 +1,6 @@
 -- What is promised to the user, in one place. The proof is `promises` of proofs/Promises. Assumes nothing.
 use mathlib.Core.Path.{_≡_}
-use mathlib.Core.Option.{Option, none, some}
+use mathlib.Core.Option.{none, some}
 use mathlib.Core.List.{List, [], _∷_, map}
 use Prim.Native.Nat.{ℕ}
 use Rattle.model.specs.Calls.{Outcome, Call}

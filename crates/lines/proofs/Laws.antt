@@ -1,12 +1,9 @@
 -- Laws of what is printed. Assumes nothing.
 use Prim.Native.Nat.{ℕ}
 use mathlib.Core.Path.{_≡_, sym, _∙_, ap, subst}
-use mathlib.Core.Bool.{true, false}
 use mathlib.Core.List.{List}
 use Rattle.model.specs.declared.Table.{Table}
-use Rattle.model.specs.Tables.{tableRules}
 use Rattle.model.specs.Calls.{TABLE, refusal}
-use Rattle.model.specs.Listing.{listing}
 use Rattle.model.specs.Script.{Replayed, resultLine, listed, printedBy, printed}
 use Rattle.octets.specs.Wrote.{Wrote}
 use Rattle.listing.specs.declared.Listed.{Listed}

@@ -1,15 +1,13 @@
 // The table as lines of text (02, CR 7).
-use model::Algorithm;
 use model::Key;
 use model::Keys;
 use model::Pair;
 use model::Table;
-ghost use mathlib.Core.Path.{_≡_};
 ghost use mathlib.Core.List.{[], _∷_, _++_};
 ghost use Prim.Native.Nat.{_+_, _*_, _≤_};
 ghost use lib.ListN.{length};
 ghost use Rattle.model.specs.Text.{numeral, partedBy};
-ghost use Rattle.model.specs.Listing.{clockLine, pairLine, algorithmWord, keyLine, keyLines};
+ghost use Rattle.model.specs.Listing.{clockLine, pairLine, keyLine, keyLines};
 ghost use Rattle.octets.specs.Wrote.{Wrote};
 ghost use Rattle.listing.specs.Listed.{Lists};
 
@@ -48,18 +46,6 @@ fn pair_line(buf: &mut [u8], at: usize, suffix: &[u8], p: Pair) -> usize
     line_end(buf, next, p.next_serial, p.lifetime, p.fresh)
 }
 
-// A tab and the algorithm's word.
-fn algorithm_field(buf: &mut [u8], at: usize, g: Algorithm) -> usize
-    requires { ⌜ at + 12 ≤ length (now buf) ⌝ }
-    ensures { λ r. ⌜ (r ≡ at + 12) × Wrote (9 ∷ algorithmWord g) at (now (buf .entry)) (now (buf .exit)) r ⌝ }
-{
-    match g {
-        Algorithm::Sha256 => octets::all_into(buf, at, b"\thmac-sha256"),
-        Algorithm::Sha384 => octets::all_into(buf, at, b"\thmac-sha384"),
-        Algorithm::Sha512 => octets::all_into(buf, at, b"\thmac-sha512"),
-    }
-}
-
 // A key's line. Its state is `adopted` or `waiting`.
 fn key_line(buf: &mut [u8], at: usize, state: &[u8], k: Key) -> usize
     requires { ⌜ (at + 108 ≤ length (now buf)) × (length (now state) ≤ 7) ⌝ }
@@ -69,7 +55,7 @@ fn key_line(buf: &mut [u8], at: usize, state: &[u8], k: Key) -> usize
     let next = octets::all_into(buf, next, state);
     let next = text::number_field(buf, next, 9, k.serial);
     let g = k.algorithm;
-    let next = algorithm_field(buf, next, g);
+    let next = text::algorithm_field(buf, next, g);
     line_end(buf, next, k.inception, k.partial, k.expiry)
 }
 
@@ -102,7 +88,7 @@ pub fn list(t: Table, buf: &mut [u8]) -> Listed
     requires { ⌜ 40000 ≤ length (now buf) ⌝ }
     ensures { λ r. ⌜ Lists t (now (buf .entry)) (now (buf .exit)) r ⌝ }
 {
-    if !tables::table_rules(t) {
+    if !table_rules::table_rules(t) {
         return Listed::Broken;
     }
     let mut next = clock_line(buf, t.clock);

@@ -1,8 +1,8 @@
 // Reads the two names that ask most of the name reader: the longest chain of pointers, and the deepest name, of labels and pointers by turns. Standard
 // input that begins with 'c' asks for the chain alone, with 'd' for the deepest name alone, and with anything else for neither; empty, for both.
+use compression::Got;
 use libc::STDIN_FILENO;
 use libc::STDOUT_FILENO;
-use names::Got;
 
 fn line(what: &[u8], n: usize) {
     io::write_all(STDOUT_FILENO, what);
@@ -13,7 +13,7 @@ fn line(what: &[u8], n: usize) {
 // The name at a place of a message.
 fn read(m: &[u8], at: usize) {
     let mut name = [0u8; 255];
-    match names::read_name(m, &mut name, at) {
+    match compression::read_name(m, &mut name, at) {
         Got::Bad(place) => {
             line(b"fails at ", place);
         }

@@ -50,7 +50,7 @@ pub extern "C" fn measure_renewal(
     offered: &mut [u8; 255],
 ) -> u64 {
     let s = holder(name, length, Asking::Adoption);
-    let w = resolver::write_renewal(s, 4660, b"", Algorithm::Sha512, 0, 1, record, out);
+    let w = resolver_requests::write_renewal(s, 4660, b"", Algorithm::Sha512, 0, 1, record, out);
     keep(w.state, adopted, offered);
     w.number
 }
@@ -63,7 +63,7 @@ pub extern "C" fn measure_adoption(
     adopted: &mut [u8; 255],
     offered: &mut [u8; 255],
 ) -> u64 {
-    let w = resolver::write_adoption(holder(name, length, Asking::Adoption), 4660, out);
+    let w = resolver_requests::write_adoption(holder(name, length, Asking::Adoption), 4660, out);
     keep(w.state, adopted, offered);
     w.number
 }
@@ -76,7 +76,7 @@ pub extern "C" fn measure_deletion(
     adopted: &mut [u8; 255],
     offered: &mut [u8; 255],
 ) -> u64 {
-    let w = resolver::write_deletion(holder(name, length, Asking::Adoption), 4660, out);
+    let w = resolver_requests::write_deletion(holder(name, length, Asking::Adoption), 4660, out);
     keep(w.state, adopted, offered);
     w.number
 }
@@ -89,7 +89,7 @@ pub extern "C" fn measure_note(
     adopted: &mut [u8; 255],
     offered: &mut [u8; 255],
 ) {
-    let s = resolver::note(holder(name, length, Asking::Adoption), id);
+    let s = resolver_requests::note(holder(name, length, Asking::Adoption), id);
     keep(s, adopted, offered);
 }
 
@@ -101,7 +101,7 @@ pub extern "C" fn measure_reply(
     adopted: &mut [u8; 255],
     offered: &mut [u8; 255],
 ) -> u64 {
-    let h = resolver::read_reply(holder(name, length, Asking::Adoption), true, reply);
+    let h = resolver_replies::read_reply(holder(name, length, Asking::Adoption), true, reply);
     keep(h.state, adopted, offered);
     h.number
 }
@@ -115,7 +115,7 @@ pub extern "C" fn measure_offer(
     adopted: &mut [u8; 255],
     offered: &mut [u8; 255],
 ) -> u64 {
-    let h = resolver::read_reply(holder(name, length, Asking::Renewal), true, reply);
+    let h = resolver_replies::read_reply(holder(name, length, Asking::Renewal), true, reply);
     keep(h.state, adopted, offered);
     h.number
 }

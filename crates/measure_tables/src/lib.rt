@@ -1,4 +1,4 @@
-// What is timed of the crate tables: each function makes a table of 64 pairs, and then runs the rule check or the search on it `turns` times.
+// What is timed of the crates tables and table_rules: each function makes a table of 64 pairs, and then runs the rule check or the search on it `turns` times.
 use model::Algorithm;
 use model::Key;
 use model::Keys;
@@ -86,7 +86,7 @@ fn check(from: Table, turns: u64) -> u64 {
     while k < turns {
         t.clock = 1000 + k % 1000;
         t.suffixes[5] = if k % 2 == 0 { 88 } else { 120 };
-        if tables::table_rules(t) {
+        if table_rules::table_rules(t) {
             kept = kept ^ (k + 1);
         }
         k += 1;

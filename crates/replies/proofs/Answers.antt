@@ -18,7 +18,7 @@ use Rattle.model.specs.Messages.{Message}
 use Rattle.model.specs.Judging.{Holder, heldSuffix, heldPair, Given}
 use Rattle.model.specs.Replies.{rcodeReply, tkeyReply, readoptedReply, replyOf}
 use Rattle.model.specs.Calls.{roomFor}
-use Rattle.messages.specs.Record.{cut}
+use Rattle.records.specs.Record.{cut}
 use Rattle.octets.specs.Wrote.{Wrote}
 use Rattle.octets.proofs.Laws.{wrote-front, from-start}
 use Rattle.tkey.specs.declared.TkeyFields.{TkeyFields}

@@ -15,7 +15,7 @@ use Rattle.octets.specs.Wrote.{Wrote}
 use Rattle.octets.proofs.Laws.{part-length, part-slice, wrote-put}
 use Rattle.replies.specs.declared.Fields.{Fields}
 use Rattle.tkey.specs.declared.KeyFields.{KeyFields}
-use Rattle.messages.specs.Record.{cut}
+use Rattle.records.specs.Record.{cut}
 use Rattle.replies.specs.Parts.{framed, keyData, tkeyOutcome, headingFront, headingBack, sizedOctets, recordFront, tkeyFront, repeatedOctets, renewedOctets, repeatedSize, renewedSize, Replied, FieldsIn, EchoIn, Read}
 
 -- two octets as one number

@@ -8,7 +8,7 @@ use Rattle.model.specs.Octets.{be16, be32, put, part, u16At}
 use Rattle.model.specs.Messages.{Message, messageOf, opcodeOf, desiredOf}
 use Rattle.model.specs.Replies.{heading, recordOctets, tkeyData, tkeyRecord}
 use Rattle.model.specs.Calls.{roomFor}
-use Rattle.messages.specs.Record.{cut, Within}
+use Rattle.records.specs.Record.{cut, Within}
 use Rattle.replies.specs.declared.Fields.{Fields}
 use Rattle.tkey.specs.declared.KeyFields.{KeyFields}
 

@@ -16,7 +16,7 @@ use Rattle.model.specs.Tkey.{onlyTkey, onlyKey}
 use Rattle.model.specs.Judging.{Holder, heldSuffix, heldPair, Given}
 use Rattle.model.specs.Replies.{replyOf}
 use Rattle.model.specs.Calls.{roomFor}
-use Rattle.messages.specs.Record.{cut}
+use Rattle.records.specs.Record.{cut}
 use Rattle.tkey.specs.declared.TkeyFields.{TkeyFields}
 use Rattle.tkey.specs.declared.TkeyFound.{TkeyFound}
 use Rattle.tkey.specs.declared.TkeyFound.the-variants.{Nothing, One}

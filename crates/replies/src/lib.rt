@@ -15,7 +15,7 @@ ghost use Rattle.model.specs.Names.{keyName};
 ghost use Rattle.model.specs.Messages.{opcodeOf, desiredOf};
 ghost use Rattle.model.specs.Replies.{heading, tkeyRecord, rcodeReply};
 ghost use Rattle.octets.specs.Wrote.{Wrote};
-ghost use Rattle.messages.specs.Record.{cut, Within};
+ghost use Rattle.records.specs.Record.{cut, Within};
 ghost use Rattle.tkey.specs.Fields.{FoundFits};
 ghost use Rattle.tkey.specs.Key.{FoundFits as KeyFits};
 ghost use Rattle.replies.specs.Parts.{headingFront, headingBack, framed, sizedOctets, recordFront, tkeyFront, dataOf, echoOf, keyData, repeatedOctets, renewedOctets, tkeyOutcome, repeatedSize, renewedSize, Replied, FieldsIn, EchoIn, Read};

@@ -16,9 +16,9 @@ use Rattle.model.specs.Tkey.{tkeyType, keyType}
 use Rattle.model.specs.Tsig.{anyClass}
 use Rattle.model.specs.Replies.{recordOctets, tkeyData, tkeyRecord}
 use Rattle.model.specs.Resolver.{requestOctets, oldKey, renewalOctets, adoptionOctets, deletionOctets, isKeyRecord}
-use Rattle.names.specs.declared.Got.{Got}
-use Rattle.names.specs.declared.Got.the-variants.{Bad, Name}
-use Rattle.names.specs.Name.{NameRead}
+use Rattle.compression.specs.declared.Got.{Got}
+use Rattle.compression.specs.declared.Got.the-variants.{Bad, Name}
+use Rattle.compression.specs.Name.{NameRead}
 use Rattle.replies.specs.Parts.{recordFront}
 use Rattle.replies.proofs.Laws.{record-octets}
 use Rattle.requests.specs.Pieces.{headerOctets, questionOctets, askedOctets, requestFront}

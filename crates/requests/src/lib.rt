@@ -1,6 +1,6 @@
 // The resolver's requests (02, CR 1; 002, 2.3 to 2.5): their octets, into the lent buffer. A writer takes the place and answers the next one.
+use compression::Got;
 use model::Algorithm;
-use names::Got;
 ghost use mathlib.Core.Path.{_≡_};
 ghost use Prim.Native.Nat.{_+_, _≤_, _<_};
 ghost use lib.ListN.{length};
@@ -14,7 +14,7 @@ ghost use Rattle.requests.specs.Pieces.{headerOctets, questionOctets, as
 pub fn is_key_record(key: &[u8]) -> bool
     ensures { λ r. ⌜ r ≡ isKeyRecord (now (key .entry)) ⌝ }
 {
-    match names::skip_plain(key, 0) {
+    match compression::skip_plain(key, 0) {
         Got::Bad(_) => false,
         Got::Name { len: _, next } => {
             if key.len() - next < 10 {

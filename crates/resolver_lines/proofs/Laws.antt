@@ -1,6 +1,6 @@
 -- Laws of what is printed. Assumes nothing.
 use Prim.Native.Nat.{ℕ}
-use mathlib.Core.Path.{_≡_, refl, sym, _∙_, ap}
+use mathlib.Core.Path.{_≡_, refl, _∙_, ap}
 use mathlib.Core.Bool.{Bool}
 use mathlib.Core.List.{List, []}
 use native.Mathlib.Omega.{arith}
@@ -12,7 +12,7 @@ use Rattle.octets.proofs.Laws.{wrote-as}
 use Rattle.resolver_script.specs.declared.ResolverRan.{ResolverRan}
 use Rattle.resolver_script.specs.declared.Event.{Event}
 use Rattle.resolver_script.specs.declared.Event.the-variants.{Table, Misread, Done, Sent, Heard, Keys}
-use Rattle.resolver_script.specs.Ran.{oursBy, oursOf, toldBy, toldOf, RanFor}
+use Rattle.resolver_script.specs.Ran.{oursBy, toldBy, RanFor}
 use Rattle.resolver_lines.specs.Line.{ResolverLineDone}
 
 -- No octets.

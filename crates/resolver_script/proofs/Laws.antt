@@ -22,11 +22,11 @@ use Rattle.model.specs.Checks.{check, checkSome}
 use Rattle.model.specs.Calls.{roomFor}
 use Rattle.model.specs.Script.{octetsAt}
 use Rattle.model.specs.Resolver.{NOKEY, ROOM, nameOf, adoptedKey, offeredKey, opened, Writing, unwritten, sent, turn, rootOr, isKeyRecord, renewalOctets, adoptionOctets, deletionOctets, writtenInto, writtenRenewal, writtenAdoption, writtenDeletion}
-use Rattle.model.specs.Halves.{Deed, Whose, table, resolver, nameAt, whoseBy, whose, Told, numberLine, toldSending, toldHeard, done}
+use Rattle.model.specs.Halves.{Deed, Whose, table, resolver, nameAt, whoseBy, whose, numberLine, toldSending, toldHeard, done}
 use Rattle.words.specs.declared.Octets.{Octets}
 use Rattle.words.specs.declared.Octets.the-variants as Octets
 use Rattle.words.specs.Reads.{OctetsRead}
-use Rattle.resolver.specs.Sent.{Sent}
+use Rattle.resolver_requests.specs.Sent.{Sent}
 use Rattle.resolver_script.specs.declared.ResolverRan.{ResolverRan}
 use Rattle.resolver_script.specs.Ran.{RanFor, NameFits, ranDone, ranSent, ranHeard}
 

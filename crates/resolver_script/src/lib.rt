@@ -82,12 +82,7 @@ fn algorithm_at(line: &[u8], i: usize) -> Named
     let Number::Is(n) = words::number_at(line, i) else {
         return Named::Unknown;
     };
-    match n {
-        256 => Named::Known(Algorithm::Sha256),
-        384 => Named::Known(Algorithm::Sha384),
-        512 => Named::Known(Algorithm::Sha512),
-        _ => Named::Unknown,
-    }
+    outcomes::algorithm_numbered(n)
 }
 
 // A name to hold, written to the front of out.
@@ -259,7 +254,7 @@ fn run_renewal<'a>(
         return ran_misread(s);
     };
     let room = script::room_of(lent);
-    ran_sent(resolver::write_renewal(
+    ran_sent(resolver_requests::write_renewal(
         s,
         id,
         &octets[..n],
@@ -282,7 +277,7 @@ fn run_adoption(s: Resolver, line: &[u8], out: &mut [u8]) -> ResolverRan
         return ran_misread(s);
     };
     let room = script::room_of(lent);
-    ran_sent(resolver::write_adoption(s, id, &mut out[..room]))
+    ran_sent(resolver_requests::write_adoption(s, id, &mut out[..room]))
 }
 
 fn run_deletion(s: Resolver, line: &[u8], out: &mut [u8]) -> ResolverRan
@@ -296,7 +291,7 @@ fn run_deletion(s: Resolver, line: &[u8], out: &mut [u8]) -> ResolverRan
         return ran_misread(s);
     };
     let room = script::room_of(lent);
-    ran_sent(resolver::write_deletion(s, id, &mut out[..room]))
+    ran_sent(resolver_requests::write_deletion(s, id, &mut out[..room]))
 }
 
 fn run_note(s: Resolver, line: &[u8]) -> ResolverRan
@@ -305,7 +300,7 @@ fn run_note(s: Resolver, line: &[u8]) -> ResolverRan
     let Id::Is(id) = words::id_at(line, 1) else {
         return ran_misread(s);
     };
-    ran_done(resolver::note(s, id))
+    ran_done(resolver_requests::note(s, id))
 }
 
 fn run_reply(s: Resolver, line: &[u8], octets: &mut [u8]) -> ResolverRan
@@ -318,7 +313,7 @@ fn run_reply(s: Resolver, line: &[u8], octets: &mut [u8]) -> ResolverRan
     let Octets::Count(n) = words::octets_at(line, 2, octets) else {
         return ran_misread(s);
     };
-    ran_heard(resolver::read_reply(s, good, &octets[..n]))
+    ran_heard(resolver_replies::read_reply(s, good, &octets[..n]))
 }
 
 // ── A line ──────────────────────────────────────────────────────────────────────────────────────────────────────────

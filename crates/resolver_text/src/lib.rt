@@ -1,5 +1,4 @@
 // The lines that a replay prints for the resolver (docs/SCRIPT.md) in a lent buffer, by positions: each writer takes the place and answers the next one.
-use model::Algorithm;
 use model::Asking;
 use model::Heard;
 use model::Holding;
@@ -15,7 +14,6 @@ ghost use Prim.Native.Nat.{_+_, _*_, _≤_};
 ghost use lib.Dec.{ltb};
 ghost use lib.ListN.{length};
 ghost use Rattle.model.specs.Text.{numeral, octetsWord, partedBy};
-ghost use Rattle.model.specs.Listing.{algorithmWord};
 ghost use Rattle.model.specs.Resolver.{nameOf};
 ghost use Rattle.model.specs.Halves.{numberLine, sendingLine, heardLine, stateLine, heldLine, heldLines, keysText, signerWord, dueWord, askingWord, openWord, idWord, turnWord};
 ghost use Rattle.octets.specs.Wrote.{Wrote};
@@ -150,18 +148,6 @@ fn name_field(buf: &mut [u8], at: usize, k: ResolverKey) -> usize
     text::octets_into(buf, next, &all[..n])
 }
 
-// A tab and the algorithm's word.
-fn algorithm_field(buf: &mut [u8], at: usize, g: Algorithm) -> usize
-    requires { ⌜ at + 12 ≤ length (now buf) ⌝ }
-    ensures { λ r. ⌜ (r ≡ at + 12) × Wrote (9 ∷ algorithmWord g) at (now (buf .entry)) (now (buf .exit)) r ⌝ }
-{
-    match g {
-        Algorithm::Sha256 => octets::all_into(buf, at, b"\thmac-sha256"),
-        Algorithm::Sha384 => octets::all_into(buf, at, b"\thmac-sha384"),
-        Algorithm::Sha512 => octets::all_into(buf, at, b"\thmac-sha512"),
-    }
-}
-
 // A key's two times, the last fields of its line.
 fn times_end(buf: &mut [u8], at: usize, inception: u32, expiration: u32) -> usize
     requires { ⌜ at + 43 ≤ length (now buf) ⌝ }
@@ -181,7 +167,7 @@ fn held_line(buf: &mut [u8], at: usize, state: &[u8], k: ResolverKey) -> usize
     let next = octets::all_into(buf, next, state);
     let next = name_field(buf, next, k);
     let g = k.algorithm;
-    let next = algorithm_field(buf, next, g);
+    let next = text::algorithm_field(buf, next, g);
     times_end(buf, next, k.inception, k.expiration)
 }
 

@@ -11,8 +11,8 @@ use Rattle.model.specs.declared.Table.{Table}
 use Rattle.model.specs.Octets.{put}
 use Rattle.model.specs.Calls.{DONE, Result, bufferAfter}
 use Rattle.model.specs.Script.{Said, bad, saidBy, said, told, Replayed, ended, begun, replayedBy}
-use Rattle.server.specs.declared.Outcome.{Outcome}
-use Rattle.server.specs.Shown.{shown}
+use Rattle.outcomes.specs.declared.Outcome.{Outcome}
+use Rattle.outcomes.specs.Shown.{shown}
 use Rattle.server.specs.Answered.{Shows}
 use Rattle.script.specs.declared.Kind.{Kind}
 use Rattle.script.specs.declared.Kind.the-variants.{Misread, Told, Replied, Listed}

@@ -6,7 +6,6 @@ use mathlib.Core.Option.{Option, none, some}
 use mathlib.Core.List.{List, []}
 use lib.ListN.{length, take}
 use Rattle.model.specs.declared.Answer.{Answer}
-use Rattle.model.specs.declared.Table.{Table}
 use Rattle.model.specs.Script.{Said, bad, list, saidNew, saidEnrol, saidIssue, saidRevoke, saidLook, saidMessage, Event, misread, told, lists, Replayed}
 use Rattle.script.specs.declared.Kind.{Kind}
 use Rattle.script.specs.declared.Kind.the-variants.{Misread, Told, Replied, Listed}

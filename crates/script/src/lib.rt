@@ -1,17 +1,17 @@
 // Lines of the replay script (docs/SCRIPT.md): what a line asks for is done to the table. Printing is the program's.
 use model::Answer;
 use model::Table;
-use server::Outcome;
+use outcomes::Outcome;
 use words::Number;
 use words::Octets;
 ghost use mathlib.Core.Path.{_≡_};
-ghost use mathlib.Core.Bool.{Bool, true};
+ghost use mathlib.Core.Bool.{true};
 ghost use mathlib.Core.List.{List};
-ghost use Prim.Native.Nat.{ℕ, _≤_, _*_, min};
-ghost use lib.ListN.{length, take};
+ghost use Prim.Native.Nat.{ℕ, _≤_, _*_};
+ghost use lib.ListN.{length};
 ghost use Rattle.model.specs.Calls.{newTable, message, called};
-ghost use Rattle.model.specs.Script.{asks, begun, ended, verdictAt, roomOf, said, saidBy, saidNew, saidEnrol, saidIssue, saidRevoke, saidLook, saidMessage, list, bad, replayedBy, replayed};
-ghost use Rattle.server.specs.Shown.{shown};
+ghost use Rattle.model.specs.Script.{asks, begun, ended, verdictAt, roomOf, saidBy, saidNew, saidEnrol, saidIssue, saidRevoke, saidLook, saidMessage, list, bad, replayedBy, replayed};
+ghost use Rattle.outcomes.specs.Shown.{shown};
 ghost use Rattle.script.specs.Ran.{Done, verdictShown, askedAs};
 
 // What a line did: nothing, as it does not read; a call with no reply; a message call; or it asks for the listing.
@@ -102,7 +102,7 @@ fn told(o: Outcome) -> Ran
 fn begin(t: Table, time: u64) -> Ran
     ensures { λ r. ⌜ ((b : List ℕ) → Done (begun t (newTable time)) b r) ⌝ }
 {
-    let o = server::new_table(time);
+    let o = operator::new_table(time);
     let a = o.answer;
     let k = Kind::Told;
     if a.number == 0 {
@@ -148,7 +148,7 @@ fn run_enrol(t: Table, line: &[u8], suffix: &mut [u8]) -> Ran
     let Number::Is(algorithm) = words::number_at(line, 5) else {
         return misread(t);
     };
-    told(server::enrol(t, time, &suffix[..n], lifetime, fresh, algorithm))
+    told(operator::enrol(t, time, &suffix[..n], lifetime, fresh, algorithm))
 }
 
 fn run_issue(t: Table, line: &[u8]) -> Ran
@@ -163,7 +163,7 @@ fn run_issue(t: Table, line: &[u8]) -> Ran
     let Number::Is(algorithm) = words::number_at(line, 3) else {
         return misread(t);
     };
-    told(server::issue(t, time, pair, algorithm))
+    told(operator::issue(t, time, pair, algorithm))
 }
 
 fn run_revoke(t: Table, line: &[u8]) -> Ran
@@ -175,7 +175,7 @@ fn run_revoke(t: Table, line: &[u8]) -> Ran
     let Number::Is(pair) = words::number_at(line, 2) else {
         return misread(t);
     };
-    told(server::revoke(t, time, pair))
+    told(operator::revoke(t, time, pair))
 }
 
 fn run_look(t: Table, line: &[u8], octets: &mut [u8]) -> Ran
@@ -185,7 +185,7 @@ fn run_look(t: Table, line: &[u8], octets: &mut [u8]) -> Ran
     let Octets::Count(n) = words::octets_at(line, 1, octets) else {
         return misread(t);
     };
-    told(server::look(t, &octets[..n]))
+    told(looking::look(t, &octets[..n]))
 }
 
 pub fn verdict_at(line: &[u8], i: usize) -> Verdict

@@ -32,7 +32,7 @@ use Rattle.messages.specs.Scan.{WholeRead}
 use Rattle.tsig.specs.declared.TsigFields.{TsigFields}
 use Rattle.tsig.specs.declared.Signer.{Signer}
 use Rattle.tsig.specs.declared.Signer.the-variants.{Key}
-use Rattle.names.specs.Compare.{nameAt}
+use Rattle.matching.specs.Compare.{nameStanding}
 use Rattle.tsig.specs.Signature.{shown as signerShown, SignatureRead}
 use Rattle.tkey.specs.declared.TkeyFound.{TkeyFound}
 use Rattle.tkey.specs.declared.KeyFound.{KeyFound}
@@ -50,12 +50,12 @@ use Rattle.judging.specs.Judged.{givenOf, contents, judgedAs}
 use Rattle.replies.specs.declared.Written.{Written}
 use Rattle.replies.specs.declared.Written.the-variants.{Reply, NoRoom}
 use Rattle.replies.specs.Written.{Answers, DecisionFits}
-use Rattle.server.specs.declared.Outcome.{Outcome}
+use Rattle.outcomes.specs.declared.Outcome.{Outcome}
 use Rattle.server.specs.declared.Response.{Response}
-use Rattle.server.specs.Shown.{shown}
+use Rattle.outcomes.specs.Shown.{shown}
 use Rattle.server.specs.Answered.{Heard, Ready, Fitting, Responded, repliedAs, settled, Shows}
 use Rattle.server.proofs.Numbers.{low-judge, fits-by}
-use Rattle.server.proofs.LookLaws.{serials-fit}
+use Rattle.judging.proofs.Serials.{serials-fit}
 
 -- ── Results ─────────────────────────────────────────────────────────────────────────────────────────────────────────
 
@@ -158,7 +158,7 @@ pub row-found :
     (n : Names) (m : List ℕ) (s : Signer) (place : ℕ) (f : TsigFields)
     → s ≡ Key place f
     → (r : Found)
-    → rowNamed n (n .count) (afterLabel (nameAt m place)) ≡ rowOf r
+    → rowNamed n (n .count) (afterLabel (nameStanding m place)) ≡ rowOf r
     → signedBy n (signerShown m s) ≡ rowOf r
 row-found n m s place f e r w = ap (λ (x : Signer). signedBy n (signerShown m x)) e ∙ w
 

@@ -28,9 +28,9 @@ use Rattle.replies.specs.declared.Written.{Written}
 use Rattle.replies.specs.declared.Written.the-variants.{Reply, NoRoom}
 use Rattle.replies.specs.Parts.{Read}
 use Rattle.replies.specs.Written.{Answers, ReadAs}
-use Rattle.server.specs.declared.Outcome.{Outcome}
+use Rattle.outcomes.specs.declared.Outcome.{Outcome}
 use Rattle.server.specs.declared.Response.{Response}
-use Rattle.server.specs.Gate.{Open}
+use Rattle.outcomes.specs.Gate.{Open}
 
 -- What was read of the message m: a query, its question section, whether it is a TKEY request, how it is signed, its only TKEY and its only KEY.
 -- `name` and `subject` hold the names of the TKEY and the KEY.

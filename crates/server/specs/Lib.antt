@@ -1,5 +1,2 @@
 -- What the contracts of this crate cite.
-pub mod Shown
-pub mod Gate
-pub mod Look
 pub mod Answered

@@ -1,6 +1,6 @@
 -- Each way that the refusals before the writing end. Assumes nothing.
 use Prim.Native.Nat.{ℕ, _≤_, _<_, _^_}
-use mathlib.Core.Path.{_≡_, refl, subst, _∙_}
+use mathlib.Core.Path.{_≡_, refl, _∙_}
 use mathlib.Core.Bool.{Bool, true, false, cond, _&&_}
 use mathlib.Core.Option.{Option, none, some}
 use mathlib.Core.List.{List}
@@ -10,18 +10,19 @@ use lib.Dec.{eqb, ltb}
 use lib.ListN.{length}
 use Rattle.model.specs.Octets.{Reading, stops, reads}
 use Rattle.model.specs.Names.{wireName}
-use Rattle.model.specs.Messages.{Record, recordAt, readMessage}
+use Rattle.model.specs.Messages.{Record, recordAt}
 use Rattle.model.specs.Tsig.{Tsig, misplaced, wellFormed, tsigOf}
 use Rattle.model.specs.Checks.{check}
 use Rattle.model.specs.Calls.{TIME, SIZE, FORMAT, NAME, sizeOk}
 use Rattle.model.specs.Signing.{Stamp, Assembled, unassembled, isUnsigned, signable}
-use Rattle.printed.proofs.Moved.{wire-stands}
+use Rattle.names.proofs.Wire.{wire-short}
 use Rattle.messages.specs.declared.Kept.{Kept}
 use Rattle.messages.specs.declared.Kept.the-variants.{Never, Once, More}
 use Rattle.messages.specs.declared.Seen.{Seen}
 use Rattle.messages.specs.declared.Outline.{Outline}
 use Rattle.messages.specs.declared.Outline.the-variants.{Bad, Whole}
 use Rattle.messages.proofs.Sizes.{size-short, size-long, size-fits}
+use Rattle.messages.proofs.Outlines.{scan-bad, scan-whole}
 use Rattle.messages.specs.Scan.{signedBy, signatureAt, WholeRead, Scanned}
 use Rattle.signing.specs.Assembling.{Bare, Passes}
 use Rattle.signing.proofs.Counts.{counts-one-more}
@@ -67,12 +68,12 @@ module _ (m : List ℕ) where
     pub ill-formed : (r : Outline) (place : ℕ) → Scanned m r → r ≡ Bad place → Bare m 6
     unfolding FORMAT
     ill-formed r place s e =
-        let stopped : readMessage m ≡ stops place = subst (Scanned m) e s in
+        let stopped = scan-bad m s e in
         record { says = λ next. rw (fits, stopped) refl; sized = λ z. absurd (omega arith) }
 
     module _ (r : Outline) (end : ℕ) (request : Bool) (seen : Seen) (s : Scanned m r) (e : r ≡ Whole end request seen) where
       whole : WholeRead m end request seen
-      whole = subst (Scanned m) e s
+      whole = scan-whole m s e
 
       pub signed-already : false ≡ isUnsigned (signatureAt m (seen .sign)) → Bare m 6
       unfolding FORMAT
@@ -121,5 +122,5 @@ module _ (m name algorithm : List ℕ) (signed n : ℕ) (p : Bare m n) where
         all-pass h =
             record {
               says = λ t next a s. passed t next ∙ rw (named, a, hashed, s, lt-ltb signed (2 ^ 48) h) refl;
-              fit = λ e. record { message = p .sized z; named = wire-stands name named .1; hashed = wire-stands algorithm hashed .1; timed = h };
+              fit = λ e. record { message = p .sized z; named = wire-short name named; hashed = wire-short algorithm hashed; timed = h };
             }

@@ -3,12 +3,12 @@ use Prim.Native.Nat.{ℕ, _≤_, _<_}
 use mathlib.Core.Path.{_≡_, refl, sym, _∙_, ap}
 use mathlib.Core.Bool.{Bool, true, false}
 use mathlib.Core.Option.{Option, none, some}
-use mathlib.Core.List.{List, [], _++_, append-assoc}
+use mathlib.Core.List.{List, _++_, append-assoc}
 use native.Mathlib.Omega.{arith}
 use borrow.Author.Tests.{le-leb, lt-leb}
 use lib.ListN.{length, take, drop, length-append}
 use lib.Seq.{take-append-seam, length-take-le}
-use Rattle.model.specs.Octets.{put, Reading, stops, reads}
+use Rattle.model.specs.Octets.{put}
 use Rattle.model.specs.Names.{readName}
 use Rattle.model.specs.Script.{numberAt, octetsAt}
 use Rattle.model.specs.Signing.{Assembled, assembledInto, readBack, removedIn}
@@ -20,18 +20,17 @@ use Rattle.words.specs.declared.Octets.the-variants as Octets
 use Rattle.words.specs.declared.Number.{Number}
 use Rattle.words.specs.declared.Number.the-variants as Number
 use Rattle.words.specs.Reads.{numberShown, OctetsRead}
-use Rattle.names.specs.declared.Got.{Got}
-use Rattle.names.specs.declared.Got.the-variants.{Bad, Name}
-use Rattle.names.specs.Name.{NameRead}
-use Rattle.names.specs.Compare.{nameAt, octetsOf}
+use Rattle.compression.specs.declared.Got.{Got}
+use Rattle.compression.specs.declared.Got.the-variants.{Bad, Name}
+use Rattle.compression.specs.Name.{NameRead}
+use Rattle.matching.specs.Compare.{nameStanding}
 use Rattle.tsig.specs.declared.TsigFields.{TsigFields}
-use Rattle.tsig.specs.declared.Signer.{Signer}
 use Rattle.tsig.specs.declared.Signer.the-variants.{Nobody, Ill, Key}
 use Rattle.tsig.specs.Signature.{tsigFrom, SignerFits, Fits}
 use Rattle.digests.specs.declared.Assembly.{Assembly}
 use Rattle.digests.specs.Left.{Left}
 use Rattle.unsigning.specs.declared.TsigRead.{TsigRead}
-use Rattle.unsigning.specs.Unsigning.{tsigIn, BackRead}
+use Rattle.unsigning.specs.Unsigning.{BackRead}
 use Rattle.signing_script.specs.declared.Numbers.{Numbers}
 use Rattle.signing_script.specs.declared.Arguments.{Arguments}
 use Rattle.signing_script.specs.declared.Arguments.the-variants as Arguments
@@ -56,10 +55,10 @@ lent-front a out room h exit r l = front-of (a room) (take room out) exit r (dro
 -- ── A name that is read ─────────────────────────────────────────────────────────────────────────────────────────────
 
 module _ (m : List ℕ) (at : ℕ) (out : List ℕ) (r : Got) (q : NameRead m (readName m at) out r) where
-  pub name-bad : (place : ℕ) → r ≡ Bad place → take 0 out ≡ nameAt m at
+  pub name-bad : (place : ℕ) → r ≡ Bad place → take 0 out ≡ nameStanding m at
   name-bad place e = rw (q .says, e) refl
 
-  pub name-good : (len next : ℕ) → r ≡ Name len next → (len ≤ 255) × (take len out ≡ nameAt m at)
+  pub name-good : (len next : ℕ) → r ≡ Name len next → (len ≤ 255) × (take len out ≡ nameStanding m at)
   name-good len next e = (rw e at (q .short), rw (q .says, e) refl)
 
 -- ── Reading back ────────────────────────────────────────────────────────────────────────────────────────────────────
@@ -72,7 +71,7 @@ module _ (m : List ℕ) (s : TsigRead) (q : BackRead m s) where
   back-ill e = sym (q .says ∙ rw e refl)
 
   module _ (place : ℕ) (f : TsigFields) (e : s .signer ≡ Key place f) where
-    pub back-key : record { number = s .number; tsig = some (tsigFrom m (nameAt m place) f) } ≡ readBack m
+    pub back-key : record { number = s .number; tsig = some (tsigFrom m (nameStanding m place) f) } ≡ readBack m
     back-key = sym (q .says ∙ rw e refl)
 
     pub key-fits : Fits m f

@@ -1,7 +1,7 @@
 // A signing call's line of the replay script, done and printed (docs/SCRIPT.md). It is done to no table and to no resolver.
+use compression::Got;
 use digests::Assembly;
 use digests::TsigNumbers;
-use names::Got;
 use signing_script::Arguments;
 use signing_script::Numbers;
 use tsig::Signer;
@@ -15,7 +15,7 @@ ghost use lib.ListN.{length, take};
 ghost use Rattle.model.specs.Signing.{readBack, removedIn};
 ghost use Rattle.model.specs.SigningLines.{saidDigestRequest, saidWithMac, saidReadBack, saidRemove, signingBy, signingOf, assembledLine, readBackLine, signingTold};
 ghost use Rattle.octets.specs.Wrote.{Wrote};
-ghost use Rattle.names.specs.Compare.{nameAt};
+ghost use Rattle.matching.specs.Compare.{nameStanding};
 ghost use Rattle.tsig.specs.Signature.{tsigFrom, Fits};
 ghost use Rattle.signing_lines.specs.Line.{Lent, Front, tsigNumbersIn, argumentsIn, requestIn, withMacIn, macCall, askedAs, isOurs, toldFor};
 
@@ -42,9 +42,9 @@ fn print_assembly(r: Assembly, out: &[u8], text: &mut [u8]) -> usize
 
 // The name at a place of the message m, written out into `out`: how many octets it has.
 fn name_into(m: &[u8], place: usize, out: &mut [u8; 255]) -> usize
-    ensures { λ r. ⌜ (r ≤ 255) × (take r (now (out .exit)) ≡ nameAt (now (m .entry)) place) ⌝ }
+    ensures { λ r. ⌜ (r ≤ 255) × (take r (now (out .exit)) ≡ nameStanding (now (m .entry)) place) ⌝ }
 {
-    match names::expand_name(m, out, place) {
+    match compression::expand_name(m, out, place) {
         Got::Bad(_) => 0,
         Got::Name { len, next: _ } => len,
     }
@@ -78,17 +78,17 @@ fn print_fields(
         0,
         number,
         &all[..len],
-        messages::part_of(m, a),
+        records::part_of(m, a),
         n,
-        messages::part_of(m, c),
-        messages::part_of(m, o),
+        records::part_of(m, c),
+        records::part_of(m, o),
     )
 }
 
 // The line of a TSIG that was read back; its owner name stands at `place`.
 fn print_tsig(m: &[u8], number: u64, place: usize, f: TsigFields, text: &mut [u8]) -> usize
     requires { ⌜ (300000 ≤ length (now text)) × Fits (now m) f ⌝ }
-    ensures { λ r. ⌜ Wrote (readBackLine (record { number = number; tsig = some (tsigFrom (now (m .entry)) (nameAt (now (m .entry)) place) f) }))
+    ensures { λ r. ⌜ Wrote (readBackLine (record { number = number; tsig = some (tsigFrom (now (m .entry)) (nameStanding (now (m .entry)) place) f) }))
         0 (now (text .entry)) (now (text .exit)) r ⌝ }
 {
     let mut name = [0u8; 255];

@@ -1,10 +1,9 @@
 -- What words say together, from what each says. Assumes nothing.
 use Prim.Native.Nat.{ℕ, _≤_}
-use mathlib.Core.Path.{_≡_, refl, sym, _∙_, ap}
-use mathlib.Core.Option.{Option, none, some}
+use mathlib.Core.Path.{_≡_, refl}
+use mathlib.Core.Option.{some}
 use mathlib.Core.List.{List}
 use native.Mathlib.Omega.{arith}
-use lib.ListN.{length, take}
 use Rattle.model.specs.Script.{numberAt, octetsAt}
 use Rattle.model.specs.Halves.{given, idAt}
 use Rattle.model.specs.SigningLines as model
@@ -15,12 +14,11 @@ use Rattle.words.specs.declared.Id.the-variants as Id
 use Rattle.words.specs.declared.Octets.{Octets}
 use Rattle.words.specs.declared.Octets.the-variants as Octets
 use Rattle.words.specs.Reads.{numberShown, idShown, octetsShown, CountFits, OctetsRead}
-use Rattle.signing_script.specs.declared.Numbers.{Numbers}
 use Rattle.signing_script.specs.declared.NumberWords.{NumberWords}
 use Rattle.signing_script.specs.declared.NumberWords.the-variants as NumberWords
 use Rattle.signing_script.specs.declared.Arguments.{Arguments}
 use Rattle.signing_script.specs.declared.Arguments.the-variants as Arguments
-use Rattle.signing_script.specs.Words.{numbersOf, numbersShown, numbersIn, RoomFits, argumentsOf, argumentsShown, ArgumentsFit, ArgumentsRead}
+use Rattle.signing_script.specs.Words.{numbersOf, numbersShown, RoomFits, argumentsOf, argumentsShown, ArgumentsFit, ArgumentsRead}
 
 -- ── The numbers ─────────────────────────────────────────────────────────────────────────────────────────────────────
 

@@ -1,7 +1,6 @@
 // The lines that a replay prints for the signing calls (docs/SCRIPT.md) in a lent buffer, by positions: each writer takes the place and answers the next one.
-ghost use mathlib.Core.Path.{_≡_};
 ghost use mathlib.Core.Option.{none, some};
-ghost use mathlib.Core.List.{_∷_, _++_, []};
+ghost use mathlib.Core.List.{_∷_, []};
 ghost use Prim.Native.Nat.{_+_, _*_, _≤_};
 ghost use lib.ListN.{length};
 ghost use Rattle.model.specs.Text.{numeral, octetsWord, partedBy};

@@ -1,10 +1,12 @@
 // Numbers, octets and the lines of a replay as text (docs/SCRIPT.md) in a lent buffer, by positions: each writer takes the place and answers the next one.
+use model::Algorithm;
 use model::Answer;
 ghost use mathlib.Core.Path.{_≡_};
 ghost use mathlib.Core.List.{[], _∷_};
 ghost use Prim.Native.Nat.{_+_, _*_, _/_, _%_, _≤_, _<_};
 ghost use lib.IntN.{natAbs};
 ghost use lib.ListN.{length};
+ghost use Rattle.model.specs.Listing.{algorithmWord};
 ghost use Rattle.model.specs.Text.{numeral, signedNumeral, hexDigit, hexOf, octetsWord, partedBy};
 ghost use Rattle.model.specs.Script.{resultLine, badLine};
 ghost use Rattle.octets.specs.Wrote.{Wrote};
@@ -91,6 +93,18 @@ pub fn number_field(buf: &mut [u8], at: usize, separator: u8, n: u64) -> usize
 {
     let next = octets::u8_into(buf, at, separator);
     number_into(buf, next, n)
+}
+
+// A tab and the algorithm's word.
+pub fn algorithm_field(buf: &mut [u8], at: usize, g: Algorithm) -> usize
+    requires { ⌜ at + 12 ≤ length (now buf) ⌝ }
+    ensures { λ r. ⌜ (r ≡ at + 12) × Wrote (9 ∷ algorithmWord g) at (now (buf .entry)) (now (buf .exit)) r ⌝ }
+{
+    match g {
+        Algorithm::Sha256 => octets::all_into(buf, at, b"\thmac-sha256"),
+        Algorithm::Sha384 => octets::all_into(buf, at, b"\thmac-sha384"),
+        Algorithm::Sha512 => octets::all_into(buf, at, b"\thmac-sha512"),
+    }
 }
 
 // The fields of a result after its skew, and the newline.

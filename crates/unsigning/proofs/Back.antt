@@ -4,8 +4,6 @@ use mathlib.Core.Path.{_≡_, refl, ap, _∙_}
 use mathlib.Core.Bool.{Bool, false}
 use mathlib.Core.List.{List}
 use lib.ListN.{length}
-use Rattle.model.specs.Octets.{stops}
-use Rattle.model.specs.Messages.{readMessage}
 use Rattle.model.specs.Tsig.{signature}
 use Rattle.model.specs.Calls.{SIZE, FORMAT, sizeOk}
 use Rattle.model.specs.Signing.{unread, readBack}
@@ -16,6 +14,7 @@ use Rattle.messages.specs.declared.Outline.{Outline}
 use Rattle.messages.specs.declared.Outline.the-variants.{Bad, Whole}
 use Rattle.messages.specs.Scan.{signatureAt, SignPlace, WholeRead, Scanned}
 use Rattle.messages.proofs.Sizes.{size-short, size-long, size-fits}
+use Rattle.messages.proofs.Outlines.{scan-bad, scan-whole}
 use Rattle.tsig.specs.declared.TsigFields.{TsigFields}
 use Rattle.tsig.specs.declared.Signer.{Signer}
 use Rattle.tsig.specs.declared.Signer.the-variants.{Nobody, Ill, Key}
@@ -76,7 +75,7 @@ module _ (m : List ℕ) (r : TsigRead) where
   module _ (low : 12 ≤ length m) (high : length m ≤ 65535) (o : Outline) (q : Scanned m o) where
     pub ill-formed : (p : ℕ) → o ≡ Bad p → r ≡ refusedBack 6 → BackRead m r
     unfolding readBack FORMAT
-    ill-formed p e i = let h : readMessage m ≡ stops p = rw e at q in back-refused m 6 r (rw (size-fits m low high, h) refl) i
+    ill-formed p e i = back-refused m 6 r (rw (size-fits m low high, scan-bad m q e) refl) i
 
     pub well-formed : (end : ℕ) (request : Bool) (seen : Seen) → o ≡ Whole end request seen → ReadsKept m (seen .sign) r → BackRead m r
-    well-formed end request seen e i = let w : WholeRead m end request seen = rw e at q in i .back end request seen (size-fits m low high) w refl
+    well-formed end request seen e i = i .back end request seen (size-fits m low high) (scan-whole m q e) refl

@@ -10,7 +10,7 @@ use Rattle.model.specs.Tsig.{Tsig}
 use Rattle.model.specs.Checks.{check}
 use Rattle.model.specs.Calls.{ROOM, sizeOk}
 use Rattle.model.specs.Signing.{Assembled, unassembled, ReadBack, readBack, removed}
-use Rattle.names.specs.Compare.{nameAt}
+use Rattle.matching.specs.Compare.{nameStanding}
 use Rattle.messages.specs.declared.Kept.{Kept}
 use Rattle.messages.specs.declared.Seen.{Seen}
 use Rattle.messages.specs.Scan.{LastAt, WholeRead}
@@ -24,7 +24,7 @@ use Rattle.unsigning.specs.declared.TsigRead.{TsigRead}
 abbrev pub tsigIn : List ℕ → Signer → Option Tsig
 tsigIn m Nobody = none
 tsigIn m Ill = none
-tsigIn m (Key place f) = some (tsigFrom m (nameAt m place) f)
+tsigIn m (Key place f) = some (tsigFrom m (nameStanding m place) f)
 
 abbrev pub backShown : List ℕ → TsigRead → ReadBack
 backShown m r = record { number = r .number; tsig = tsigIn m (r .signer) }

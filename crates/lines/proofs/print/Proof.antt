@@ -1,5 +1,4 @@
 -- `lines::print` meets its contract. Assumes nothing.
-use Rattle.script.specs.Ran.{ReplyFits}
 use borrow.Author.Needs.{needs}
 use Rattle.lines.proofs.print.Statement.{statement}
 use Rattle.lines.proofs.print.Tie as tie

@@ -4,7 +4,7 @@ use denote.Ref.{now}
 use mathlib.Core.Path.{sym}
 use native.Mathlib.Omega.{arith}
 use Rattle.replies.proofs.Laws.{record-octets}
-use Rattle.messages.specs.Record.{cut}
+use Rattle.records.specs.Record.{cut}
 use borrow.Author.Needs.{needs}
 use Rattle.replies.proofs.echo_record.Statement.{statement}
 use Rattle.replies.proofs.echo_record.Tie as tie

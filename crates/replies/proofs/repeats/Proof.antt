@@ -1,6 +1,6 @@
 -- `replies::repeats` meets its contract. Assumes nothing.
 use denote.Ref.{now}
-use Rattle.messages.specs.Record.{cut}
+use Rattle.records.specs.Record.{cut}
 use Rattle.replies.specs.Parts.{tkeyOutcome}
 use Rattle.replies.proofs.Answers.{answers-by, repeated-some}
 use borrow.Author.Needs.{needs}

@@ -1,5 +1,5 @@
 -- `resolver_script::handed_key` meets its contract. Assumes nothing.
-use mathlib.Core.Path.{_≡_, refl, sym, _∙_, ap}
+use mathlib.Core.Path.{refl}
 use Rattle.octets.proofs.Laws.{wrote-put}
 use Rattle.model.specs.Halves.{handed}
 use borrow.Author.Needs.{needs}

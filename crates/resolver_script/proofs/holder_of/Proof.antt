@@ -1,5 +1,5 @@
 -- `resolver_script::holder_of` meets its contract. Assumes nothing.
-use mathlib.Core.Path.{_≡_, refl, sym, _∙_, ap}
+use mathlib.Core.Path.{refl}
 use Rattle.model.specs.Halves.{holder}
 use Rattle.resolver_script.proofs.holder_of.Statement.{statement}
 use Rattle.resolver_script.proofs.holder_of.Tie as tie

@@ -1,5 +1,5 @@
 -- `resolver_script::ran_keys` meets its contract. Assumes nothing.
-use mathlib.Core.Path.{_≡_, refl, sym, _∙_, ap}
+use mathlib.Core.Path.{refl}
 use Rattle.model.specs.Halves.{done}
 use Rattle.resolver_script.proofs.ran_keys.Statement.{statement}
 use Rattle.resolver_script.proofs.ran_keys.Tie as tie

@@ -1,5 +1,5 @@
 -- `resolver_script::run_note` meets its contract. Assumes nothing.
-use mathlib.Core.Path.{_≡_, refl, sym, _∙_, ap}
+use mathlib.Core.Path.{_≡_, refl, _∙_, ap}
 use Rattle.model.specs.Halves.{note, saidNote, done}
 use mathlib.Core.Option.{none, some}
 use Rattle.resolver_script.proofs.Laws.{as-read, done-for}

@@ -1,5 +1,5 @@
 -- `resolver_script::start` meets its contract. Assumes nothing.
-use mathlib.Core.Path.{_≡_, refl, sym, _∙_, ap}
+use mathlib.Core.Path.{_∙_, ap}
 use Rattle.model.specs.declared.Holding.the-variants as Holding
 use Rattle.model.specs.Halves.{holder, newcomer}
 use borrow.Author.Needs.{needs}

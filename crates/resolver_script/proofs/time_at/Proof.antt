@@ -1,5 +1,5 @@
 -- `resolver_script::time_at` meets its contract. Assumes nothing.
-use mathlib.Core.Path.{_≡_, refl, sym, _∙_, ap}
+use mathlib.Core.Path.{_∙_, ap}
 use borrow.Author.Tests.{lt-ltb, le-ltb}
 use Rattle.words.specs.Reads.{numberShown}
 use Rattle.model.specs.Halves.{timeAt}

@@ -1,8 +1,8 @@
 -- `script::is_call` meets its contract. Assumes nothing.
-use mathlib.Core.Path.{_≡_, sym, _∙_, ap}
+use mathlib.Core.Path.{sym, _∙_, ap}
 use borrow.Author.Tests.{eq-eqb, ne-eqb}
 use Rattle.model.specs.Text.{isWord}
-use Rattle.model.specs.Script.{asks, wordAt}
+use Rattle.model.specs.Script.{asks}
 use borrow.Author.Needs.{needs}
 use Rattle.script.proofs.is_call.Statement.{statement}
 use Rattle.script.proofs.is_call.Tie as tie

@@ -3,7 +3,6 @@ use lib.ListN.{take}
 use lib.Seq.{length-take-le}
 use mathlib.Core.Path.{_≡_, sym, _∙_, ap}
 use Rattle.words.specs.Reads.{numberShown, octetsShown}
-use Rattle.model.specs.Calls.{enrolOn}
 use Rattle.model.specs.Script.{bad, enrol, ended, saidEnrol, replayedBy}
 use Rattle.script.proofs.Laws.{as-done}
 use borrow.Author.Needs.{needs}

@@ -1,7 +1,6 @@
 -- `script::run_new` meets its contract. Assumes nothing.
-use mathlib.Core.Path.{_≡_, sym, _∙_, ap}
+use mathlib.Core.Path.{_≡_, _∙_, ap}
 use Rattle.words.specs.Reads.{numberShown}
-use Rattle.model.specs.Calls.{newTable}
 use Rattle.model.specs.Script.{bad, new, saidNew, replayedBy}
 use Rattle.script.proofs.Laws.{as-done}
 use borrow.Author.Needs.{needs}

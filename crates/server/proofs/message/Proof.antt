@@ -1,5 +1,5 @@
 -- `server::message` meets its contract. Assumes nothing.
-use Rattle.server.proofs.Laws.{call-passed, call-refused, open-at}
+use Rattle.outcomes.proofs.Laws.{call-passed, call-refused, open-at}
 use Rattle.model.specs.Calls.{message, messageOn, timeOf}
 use mathlib.Core.Path.{refl}
 use Rattle.server.proofs.MessageLaws.{shows-as, shows-refused}

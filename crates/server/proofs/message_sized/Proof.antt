@@ -2,7 +2,7 @@
 use Rattle.model.specs.Calls.{FORMAT}
 use mathlib.Core.Path.{_∙_, sym}
 use Rattle.model.proofs.CallLaws.{message-format}
-use Rattle.server.proofs.LookLaws.{scan-bad, scan-whole}
+use Rattle.messages.proofs.Outlines.{scan-bad, scan-whole}
 use Rattle.server.proofs.MessageLaws.{shows-refused, sized-more}
 use borrow.Author.Needs.{needs}
 use Rattle.server.proofs.MessageLaws.{read-response as message-asks}

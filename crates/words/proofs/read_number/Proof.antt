@@ -1,6 +1,6 @@
 -- `words::read_number` meets its contract. The loop's invariant: the number goes on from n by the digits left. Assumes nothing.
-use Prim.Native.Nat.{ℕ, _+_, _-_, _*_, _≤_, _<_}
-use mathlib.Core.Path.{_≡_, refl, sym, _∙_, ap}
+use Prim.Native.Nat.{_+_, _-_, _*_, _≤_, _<_}
+use mathlib.Core.Path.{_≡_, sym, _∙_}
 use native.Mathlib.Omega.{arith}
 use borrow.Author.Needs.{needs}
 use lib.ListN.{length, drop}
@@ -8,7 +8,6 @@ use Rattle.model.specs.Text.{numberFrom, numberOf}
 use Rattle.words.proofs.Laws.{no-digits, digits, low, high, large, digit, all-read}
 use Rattle.words.proofs.read_number.Statement.{statement}
 use Rattle.words.proofs.read_number.Tie as tie
-use Rattle.octets.proofs.wide.Reads as wide-reads
 
 abbrev Inv-loop : tie.InvT-loop
 Inv-loop w n₀ i₀ n i = (i ≤ length w) × (n < 0x1_0000_0000_0000_0000) × (numberFrom n (drop i w) ≡ numberOf w)

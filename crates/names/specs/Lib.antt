@@ -1,4 +1,0 @@
--- What the contracts of this crate cite.
-pub mod Name
-pub mod Skip
-pub mod Compare

@@ -1,3 +1,0 @@
--- The laws that proofs of this crate cite.
-pub mod Sent
-pub mod Hearing

@@ -1,304 +1,298 @@
-// Replays a script of calls: each line of standard input is done to the table, to the resolver, or, a signing call's, to octets alone, and its result printed
-// (docs/SCRIPT.md). The lines mean what the crates lines, resolver_lines and signing_lines prove; here they are taken from the input and their text is written, in
-// constant memory.
+// Replays a script of calls: each line of standard input is done to the table, to the resolver, or to octets alone, and its result printed (docs/SCRIPT.md), in
+// constant memory. What is printed is tested, not proved. The first failure of reading or writing ends the run: a line that was cut off is not done, nothing
+// more is printed, and standard error says what failed.
+mod print;
+mod resolver_lines;
+mod signing_lines;
+mod table_lines;
+
 use libc::STDIN_FILENO;
 use libc::STDOUT_FILENO;
 use model::Resolver;
 use model::Table;
-ghost use mathlib.Core.Path.{_≡_};
-ghost use Prim.Native.Nat.{_≤_, _<_};
-ghost use lib.ListN.{length};
-ghost use Rattle.signing_lines.specs.Line.{Lent as LentOut};
-ghost use Rattle.replay.specs.Lent.{Lent};
+use script::Call;
+use script::Command;
+ghost use Prim.Native.Nat.{_<_};
 
-// The run so far: the table and the resolver, the number of the line that is being read, and whether all that was printed could be written.
+// The run so far: the table and the resolver, the number of the line that is being read, how many octets of it are kept, and whether the run goes on.
 struct Run {
     table: Table,
     resolver: Resolver,
     number: u64,
-    ok: bool,
+    used: usize,
+    on: bool,
 }
 
-// The run, and how many octets of the line that is being read are kept.
-struct Fed {
-    run: Run,
-    used: usize,
+// What a command leaves, and how many octets it printed.
+struct Done {
+    table: Table,
+    resolver: Resolver,
+    length: usize,
+}
+
+// Does line number n, a command, and prints at the front of text.
+fn perform(
+    t: Table,
+    s: Resolver,
+    n: u64,
+    c: Command,
+    arena: &[u8],
+    out: &mut [u8],
+    text: &mut [u8],
+) -> Done {
+    let call = c.call;
+    let a = c.args;
+    match call {
+        Call::Table(call) => {
+            let l = table_lines::table_line(t, call, a, arena, out, text);
+            let table = l.table;
+            Done {
+                table,
+                resolver: s,
+                length: l.length,
+            }
+        }
+        Call::Resolver(call) => {
+            let l = resolver_lines::resolver_line(s, call, a, arena, out, text);
+            let resolver = l.state;
+            Done {
+                table: t,
+                resolver,
+                length: l.length,
+            }
+        }
+        Call::Signing(call) => Done {
+            table: t,
+            resolver: s,
+            length: signing_lines::signing_line(call, a, arena, out, text),
+        },
+        Call::Unread => Done {
+            table: t,
+            resolver: s,
+            length: print::bad_line(text, n),
+        },
+    }
 }
 
 fn next_number(n: u64) -> u64 {
     if n < 0xffff_ffff_ffff_ffff { n + 1 } else { n }
 }
 
-// Does and prints a line that is the table's.
-fn end_table_line<'a>(
-    r: Run,
-    line: &[u8],
-    octets: &'a mut [u8],
-    offer: &'a mut [u8],
-    reply: &mut [u8],
-    text: &mut [u8],
-) -> Run
-    requires { ⌜ Lent (length (now octets)) (length (now offer)) (length (now reply)) (length (now text)) ⌝ }
-{
-    let t = r.table;
-    let l = lines::replay_line(t, r.number, line, octets, offer, reply, text);
-    let n = l.length;
-    let ok = io::write_all(STDOUT_FILENO, &text[..n]);
-    let u = l.table;
-    let s = r.resolver;
-    Run {
-        table: u,
-        resolver: s,
-        number: next_number(r.number),
-        ok,
+// Writes what was printed: whether it could be.
+fn written(text: &[u8]) -> bool {
+    if io::write_all(STDOUT_FILENO, text) {
+        return true;
     }
+    os::fail(b"replay: writing standard output");
+    false
 }
 
-// Does and prints a line that is the resolver's.
-fn end_resolver_line<'a>(
-    r: Run,
-    line: &[u8],
-    octets: &'a mut [u8],
-    key: &'a mut [u8],
-    out: &mut [u8],
-    text: &mut [u8],
-) -> Run
-    requires { ⌜ Lent (length (now octets)) (length (now key)) (length (now out)) (length (now text)) ⌝ }
-{
-    let s = r.resolver;
-    let l = resolver_lines::resolver_line(s, r.number, line, octets, key, out, text);
-    let n = l.length;
-    let ok = io::write_all(STDOUT_FILENO, &text[..n]);
-    let t = r.table;
-    let u = l.state;
-    Run {
-        table: t,
-        resolver: u,
-        number: next_number(r.number),
-        ok,
-    }
-}
-
-// Does and prints a line that is a signing call's: whether it could be written.
-fn print_signing_line<'a>(
-    number: u64,
-    line: &[u8],
-    message: &'a mut [u8],
-    name: &'a mut [u8],
-    algorithm: &'a mut [u8],
-    other: &'a mut [u8],
-    mac: &'a mut [u8],
-    out: &mut [u8],
-    text: &mut [u8],
-) -> bool
-    requires { ⌜ (100000 ≤ length (now message)) × (100000 ≤ length (now name)) × (100000 ≤ length (now algorithm)) × (100000 ≤ length (now other))
-        × (100000 ≤ length (now mac)) × LentOut (length (now out)) (length (now text)) ⌝ }
-{
-    let n = signing_lines::signing_line(
-        number,
-        line,
-        message,
-        name,
-        algorithm,
-        other,
-        mac,
-        out,
-        text,
-    );
-    io::write_all(STDOUT_FILENO, &text[..n])
-}
-
-// The same, with buffers of its own: as many as such a line has words of octets, one for what the call writes, and one for the text.
-fn end_signing_line(r: Run, line: &[u8]) -> Run {
-    let mut message = [0u8; 100000];
-    let mut name = [0u8; 100000];
-    let mut algorithm = [0u8; 100000];
-    let mut other = [0u8; 100000];
-    let mut mac = [0u8; 100000];
-    let mut out = [0u8; 100000];
-    let mut text = [0u8; 300000];
-    let ok = print_signing_line(
-        r.number,
-        line,
-        &mut message,
-        &mut name,
-        &mut algorithm,
-        &mut other,
-        &mut mac,
-        &mut out,
-        &mut text,
-    );
+// Does a line and prints its result.
+fn end_line(r: Run, line: &[u8], arena: &mut [u8], out: &mut [u8], text: &mut [u8]) -> Run {
     let t = r.table;
     let s = r.resolver;
+    let c = script::read_line(line, arena);
+    let d = perform(t, s, r.number, c, arena, out, text);
+    let table = d.table;
+    let resolver = d.resolver;
+    let on = written(print::front(text, d.length));
     Run {
-        table: t,
-        resolver: s,
+        table,
+        resolver,
         number: next_number(r.number),
-        ok,
+        used: 0,
+        on,
     }
 }
 
-// Does and prints a line.
-fn end_line<'a>(
-    r: Run,
-    line: &[u8],
-    octets: &'a mut [u8],
-    offer: &'a mut [u8],
-    reply: &mut [u8],
-    text: &mut [u8],
-) -> Run
-    requires { ⌜ Lent (length (now octets)) (length (now offer)) (length (now reply)) (length (now text)) ⌝ }
-{
-    if signing_lines::is_signing(line) {
-        return end_signing_line(r, line);
-    }
-    if resolver_script::is_resolvers(line) {
-        return end_resolver_line(r, line, octets, offer, reply, text);
-    }
-    end_table_line(r, line, octets, offer, reply, text)
-}
-
-// Takes what was read, octet by octet, and does each line that ends in it. Of a line, 200,001 octets are kept: so many are too many.
-fn feed<'a>(
-    run: Run,
+// What was taken of the input: how many octets of the line are kept, the place behind what was taken, and whether the line ends there.
+struct Taken {
     used: usize,
+    next: usize,
+    ended: bool,
+}
+
+// Keeps the octets of the input from a place on, up to a newline. Of a line, 200,001 octets are kept: so many are too many.
+fn take_line(line: &mut [u8], used: usize, input: &[u8], from: usize) -> Taken {
+    let mut n = used;
+    let mut at = from;
+    while at < input.len() {
+        let x = input[at];
+        at += 1;
+        if x == b'\n' {
+            return Taken {
+                used: n,
+                next: at,
+                ended: true,
+            };
+        }
+        n = print::octet(line, n, x);
+    }
+    Taken {
+        used: n,
+        next: at,
+        ended: false,
+    }
+}
+
+// Does the line where it ends.
+fn feed_line(
+    r: Run,
+    t: Taken,
+    line: &[u8],
+    arena: &mut [u8],
+    out: &mut [u8],
+    text: &mut [u8],
+) -> Run {
+    if t.ended {
+        return end_line(r, print::front(line, t.used), arena, out, text);
+    }
+    let mut s = r;
+    s.used = t.used;
+    s
+}
+
+// The place to go on from: behind `at`, and at the end where the run is over.
+fn go_on(on: bool, at: usize, next: usize, end: usize) -> usize
+    requires { ⌜ at < end ⌝ }
+    ensures { λ r. ⌜ at < r ⌝ }
+{
+    if !on {
+        return end;
+    }
+    if at < next { next } else { end }
+}
+
+// The run, and the place behind what was taken of the input.
+struct Fed {
+    run: Run,
+    next: usize,
+}
+
+// Takes the input from a place on up to the end of a line, and does the line.
+fn feed_from(
+    r: Run,
+    from: usize,
     input: &[u8],
     line: &mut [u8],
-    octets: &'a mut [u8],
-    offer: &'a mut [u8],
-    reply: &mut [u8],
+    arena: &mut [u8],
+    out: &mut [u8],
     text: &mut [u8],
-) -> Fed
-    requires { ⌜ (used ≤ 200001) × (length (now line) ≡ 200001) × Lent (length (now octets)) (length (now offer)) (length (now reply)) (length (now text)) ⌝ }
-    ensures { λ r. ⌜ r .used ≤ 200001 ⌝ }
-{
+) -> Fed {
+    let t = take_line(line, r.used, input, from);
+    let run = feed_line(r, t, line, arena, out, text);
+    Fed { run, next: t.next }
+}
+
+// Does each line that ends in what was read, until the run ends.
+fn feed(
+    run: Run,
+    input: &[u8],
+    line: &mut [u8],
+    arena: &mut [u8],
+    out: &mut [u8],
+    text: &mut [u8],
+) -> Run {
     let mut r = run;
-    let mut n = used;
     let mut i = 0;
     while i < input.len() {
-        if input[i] == b'\n' {
-            i += 1;
-            r = end_line(r, &line[..n], octets, offer, reply, text);
-            n = 0;
-            continue;
-        }
-        if n < 200001 {
-            line[n] = input[i];
-            n += 1;
-            i += 1;
-            continue;
-        }
-        i += 1;
+        let f = feed_from(r, i, input, line, arena, out, text);
+        r = f.run;
+        i = go_on(r.on, i, f.next, input.len());
     }
-    Fed { run: r, used: n }
+    r
+}
+
+fn stopped(r: Run) -> Run {
+    let mut s = r;
+    s.on = false;
+    s
 }
 
 // At the end of the input: a last line without its newline is done too.
-fn finish<'a>(
-    r: Run,
-    used: usize,
-    line: &[u8],
-    octets: &'a mut [u8],
-    offer: &'a mut [u8],
-    reply: &mut [u8],
-    text: &mut [u8],
-) -> Fed
-    requires { ⌜ (used ≤ length (now line)) × Lent (length (now octets)) (length (now offer)) (length (now reply)) (length (now text)) ⌝ }
-    ensures { λ r. ⌜ r .used ≤ 200001 ⌝ }
-{
-    let t = r.table;
-    let s = r.resolver;
-    let number = r.number;
-    if 0 < used {
-        end_line(r, &line[..used], octets, offer, reply, text);
+fn finish(r: Run, line: &[u8], arena: &mut [u8], out: &mut [u8], text: &mut [u8]) -> Run {
+    if 0 < r.used {
+        return stopped(end_line(r, print::front(line, r.used), arena, out, text));
     }
-    let ended = Run {
-        table: t,
-        resolver: s,
-        number,
-        ok: false,
-    };
-    Fed {
-        run: ended,
-        used: 0,
-    }
+    stopped(r)
 }
 
-// Reads once, and does the lines that came. At the end of the input the run is no longer `ok`.
-fn turn<'a>(
-    f: Fed,
-    input: &mut [u8],
+// Does the lines that a read brought, by what it answered.
+fn took(
+    r: Run,
+    got: isize,
+    input: &[u8],
     line: &mut [u8],
-    octets: &'a mut [u8],
-    offer: &'a mut [u8],
-    reply: &mut [u8],
+    arena: &mut [u8],
+    out: &mut [u8],
     text: &mut [u8],
-) -> Fed
-    requires { ⌜ (f .used ≤ 200001) × (length (now line) ≡ 200001) × Lent (length (now octets)) (length (now offer)) (length (now reply)) (length (now text)) ⌝ }
-    ensures { λ r. ⌜ r .used ≤ 200001 ⌝ }
-{
-    let r = f.run;
-    let used = f.used;
-    let got = libc::read(STDIN_FILENO, input);
+) -> Run {
+    if got < 0 {
+        os::fail(b"replay: reading standard input");
+        return stopped(r);
+    }
     let n = io::count(got, input);
     if n == 0 {
-        return finish(r, used, line, octets, offer, reply, text);
+        return finish(r, line, arena, out, text);
     }
-    feed(r, used, &input[..n], line, octets, offer, reply, text)
+    feed(r, print::front(input, n), line, arena, out, text)
 }
 
-fn turns_left(go: bool, turns: u64) -> u64
+fn turn(
+    r: Run,
+    input: &mut [u8],
+    line: &mut [u8],
+    arena: &mut [u8],
+    out: &mut [u8],
+    text: &mut [u8],
+) -> Run {
+    let got = libc::read(STDIN_FILENO, input);
+    took(r, got, input, line, arena, out, text)
+}
+
+fn turns_left(on: bool, turns: u64) -> u64
     requires { ⌜ 0 < turns ⌝ }
     ensures { λ r. ⌜ r < turns ⌝ }
 {
-    if go { turns - 1 } else { 0 }
+    if on { turns - 1 } else { 0 }
 }
 
-// Reads to the end of the input, and stops early only if what is printed cannot be written. A proved loop has to end, and nothing says that the input
-// does: so the loop counts its turns down, from a number that no run uses up.
-fn run_all<'a>(
-    start: Fed,
+// Reads until the run ends. A proved loop has to end, and nothing says that the input does: so the loop counts its turns down, from a number that no run uses up.
+fn run_all(
+    start: Run,
     input: &mut [u8],
     line: &mut [u8],
-    octets: &'a mut [u8],
-    offer: &'a mut [u8],
-    reply: &mut [u8],
+    arena: &mut [u8],
+    out: &mut [u8],
     text: &mut [u8],
-)
-    requires { ⌜ (start .used ≤ 200001) × (length (now line) ≡ 200001) × Lent (length (now octets)) (length (now offer)) (length (now reply)) (length (now text)) ⌝ }
-{
-    let mut f = start;
+) {
+    let mut r = start;
     let mut turns: u64 = 0xffff_ffff_ffff_ffff;
     while 0 < turns {
-        f = turn(f, input, line, octets, offer, reply, text);
-        let r = f.run;
-        turns = turns_left(r.ok, turns);
+        r = turn(r, input, line, arena, out, text);
+        turns = turns_left(r.on, turns);
     }
 }
 
 fn main() {
-    let mut input = [0u8; 65536];
+    let mut input = [0u8; 16384];
     let mut line = [0u8; 200001];
-    let mut octets = [0u8; 100000];
-    let mut offer = [0u8; 100000];
-    let mut reply = [0u8; 65535];
-    let mut text = [0u8; 140000];
-    let t = tables::empty_table(0);
-    let s = resolver_script::start();
-    let run = Run {
-        table: t,
-        resolver: s,
+    let mut arena = [0u8; 100000];
+    let mut out = [0u8; 100000];
+    let mut text = [0u8; 210000];
+    let start = Run {
+        table: tables::empty_table(0),
+        resolver: resolver_lines::newcomer(),
         number: 1,
-        ok: true,
+        used: 0,
+        on: true,
     };
-    let start = Fed { run, used: 0 };
     run_all(
         start,
         &mut input,
         &mut line,
-        &mut octets,
-        &mut offer,
-        &mut reply,
+        &mut arena,
+        &mut out,
         &mut text,
     );
 }

@@ -1,332 +1,352 @@
-// Lines of the replay script (docs/SCRIPT.md): what a line asks for is done to the table. Printing is the program's.
-use model::Answer;
-use model::Table;
-use outcomes::Outcome;
+// A line of the replay script (docs/SCRIPT.md), read into one command: which call it is, its numbers, and its octets as spans of one arena. What a line means is
+// tested against the second reader and not proved: the contracts say that reading a line is safe and ends.
+use model::Span;
 use words::Number;
 use words::Octets;
-ghost use mathlib.Core.Path.{_≡_};
-ghost use mathlib.Core.Bool.{true};
-ghost use mathlib.Core.List.{List};
-ghost use Prim.Native.Nat.{ℕ, _≤_, _*_};
-ghost use lib.ListN.{length};
-ghost use Rattle.model.specs.Calls.{newTable, message, called};
-ghost use Rattle.model.specs.Script.{asks, begun, ended, verdictAt, roomOf, saidBy, saidNew, saidEnrol, saidIssue, saidRevoke, saidLook, saidMessage, list, bad, replayedBy, replayed};
-ghost use Rattle.outcomes.specs.Shown.{shown};
-ghost use Rattle.script.specs.Ran.{Done, verdictShown, askedAs};
 
-// What a line did: nothing, as it does not read; a call with no reply; a message call; or it asks for the listing.
-pub enum Kind {
-    Misread,
-    Told,
-    Replied,
-    Listed,
-}
-
-// What a line did, the numbers of its call (0 where there is none), and the table afterwards.
-pub struct Ran {
-    pub kind: Kind,
-    pub answer: Answer,
-    pub table: Table,
-}
-
-// What a word says as a verdict.
-pub enum Verdict {
-    Is(bool),
-    None,
-}
-
-// The call that a line names.
-enum Asked {
-    List,
+// The calls on the table.
+pub enum TableCall {
     New,
-    Look,
-    Revoke,
-    Issue,
     Enrol,
+    Issue,
+    Revoke,
+    Look,
     Message,
-    Nothing,
+    List,
 }
 
-fn no_answer() -> Answer {
-    Answer {
-        number: 0,
-        length: 0,
-        error: 0,
-        skew: 0,
-        pair: 0,
-        serial: 0,
+// The lines that are done to the resolver.
+pub enum ResolverCall {
+    Hold,
+    Renewal,
+    Adoption,
+    Deletion,
+    Note,
+    Reply,
+    Keys,
+}
+
+// The calls on octets alone.
+pub enum SigningCall {
+    DigestRequest,
+    DigestReply,
+    Finish,
+    ReadBack,
+    Remove,
+}
+
+// Whose a line is, and which call; or it does not read.
+pub enum Call {
+    Table(TableCall),
+    Resolver(ResolverCall),
+    Signing(SigningCall),
+    Unread,
+}
+
+// What the words behind the first say, each at its number: a number, `good` as 1 and `bad` as 0, or octets as a span of the arena.
+pub struct Args {
+    pub numbers: [u64; 12],
+    pub spans: [Span; 12],
+    // how many octets of the arena are in use
+    used: usize,
+    // whether every word so far reads
+    read: bool,
+}
+
+pub struct Command {
+    pub call: Call,
+    pub args: Args,
+}
+
+// ── Words ───────────────────────────────────────────────────────────────────────────────────────────────────────────
+
+// The part of s from one place to another; no octets where there is none.
+pub fn part(s: &[u8], from: usize, to: usize) -> &[u8] {
+    if s.len() < to {
+        return &s[..0];
     }
-}
-
-fn misread(t: Table) -> Ran
-    ensures { λ r. ⌜ ((b : List ℕ) → Done (replayedBy t bad) b r) ⌝ }
-{
-    let a = no_answer();
-    let k = Kind::Misread;
-    Ran {
-        kind: k,
-        answer: a,
-        table: t,
+    if to < from {
+        return &s[..0];
     }
+    &s[from..to]
 }
 
-fn lists(t: Table) -> Ran
-    ensures { λ r. ⌜ ((b : List ℕ) → Done (replayedBy t list) b r) ⌝ }
-{
-    let a = no_answer();
-    let k = Kind::Listed;
-    Ran {
-        kind: k,
-        answer: a,
-        table: t,
+// The octets of a buffer from a place on.
+fn tail(s: &mut [u8], from: usize) -> &mut [u8] {
+    if s.len() < from {
+        return &mut s[..0];
     }
+    &mut s[from..]
 }
 
-// A call with no reply.
-fn told(o: Outcome) -> Ran
-    ensures { λ r. ⌜ ((b : List ℕ) → Done (ended (shown o)) b r) ⌝ }
-{
-    let a = o.answer;
-    let t = o.table;
-    let k = Kind::Told;
-    Ran {
-        kind: k,
-        answer: a,
-        table: t,
+// Where the word that starts at `from` ends: at a space, or with the line.
+fn word_end(line: &[u8], from: usize) -> usize {
+    let mut at = from;
+    while at < line.len() {
+        if line[at] == b' ' {
+            return at;
+        }
+        at += 1;
     }
+    at
 }
 
-// ── The calls ───────────────────────────────────────────────────────────────────────────────────────────────────────
-
-// A refused `new` leaves the table as it was.
-fn begin(t: Table, time: u64) -> Ran
-    ensures { λ r. ⌜ ((b : List ℕ) → Done (begun t (newTable time)) b r) ⌝ }
-{
-    let o = operator::new_table(time);
-    let a = o.answer;
-    let k = Kind::Told;
-    if a.number == 0 {
-        let u = o.table;
-        return Ran {
-            kind: k,
-            answer: a,
-            table: u,
-        };
+// What a word says as octets, written to the front of out: hexadecimal, or `-` for none.
+fn octets_into(w: &[u8], out: &mut [u8]) -> Octets {
+    if w.len() == 0 {
+        return Octets::None;
     }
-    Ran {
-        kind: k,
-        answer: a,
-        table: t,
+    if words::is_word(w, b"-") {
+        return Octets::Count(0);
     }
+    if out.len() < w.len() - w.len() / 2 {
+        return Octets::None;
+    }
+    words::unhex_into(w, out)
 }
 
-fn run_new(t: Table, line: &[u8]) -> Ran
-    ensures { λ r. ⌜ ((b : List ℕ) → Done (replayedBy t (saidNew (now (line .entry)))) b r) ⌝ }
-{
-    let Number::Is(time) = words::number_at(line, 1) else {
-        return misread(t);
-    };
-    begin(t, time)
-}
-
-fn run_enrol(t: Table, line: &[u8], suffix: &mut [u8]) -> Ran
-    requires { ⌜ length (now line) ≤ 2 * length (now suffix) ⌝ }
-    ensures { λ r. ⌜ ((b : List ℕ) → Done (replayedBy t (saidEnrol (now (line .entry)))) b r) ⌝ }
-{
-    let Number::Is(time) = words::number_at(line, 1) else {
-        return misread(t);
-    };
-    let Octets::Count(n) = words::octets_at(line, 2, suffix) else {
-        return misread(t);
-    };
-    let Number::Is(lifetime) = words::number_at(line, 3) else {
-        return misread(t);
-    };
-    let Number::Is(fresh) = words::number_at(line, 4) else {
-        return misread(t);
-    };
-    let Number::Is(algorithm) = words::number_at(line, 5) else {
-        return misread(t);
-    };
-    told(operator::enrol(t, time, &suffix[..n], lifetime, fresh, algorithm))
-}
-
-fn run_issue(t: Table, line: &[u8]) -> Ran
-    ensures { λ r. ⌜ ((b : List ℕ) → Done (replayedBy t (saidIssue (now (line .entry)))) b r) ⌝ }
-{
-    let Number::Is(time) = words::number_at(line, 1) else {
-        return misread(t);
-    };
-    let Number::Is(pair) = words::number_at(line, 2) else {
-        return misread(t);
-    };
-    let Number::Is(algorithm) = words::number_at(line, 3) else {
-        return misread(t);
-    };
-    told(operator::issue(t, time, pair, algorithm))
-}
-
-fn run_revoke(t: Table, line: &[u8]) -> Ran
-    ensures { λ r. ⌜ ((b : List ℕ) → Done (replayedBy t (saidRevoke (now (line .entry)))) b r) ⌝ }
-{
-    let Number::Is(time) = words::number_at(line, 1) else {
-        return misread(t);
-    };
-    let Number::Is(pair) = words::number_at(line, 2) else {
-        return misread(t);
-    };
-    told(operator::revoke(t, time, pair))
-}
-
-fn run_look(t: Table, line: &[u8], octets: &mut [u8]) -> Ran
-    requires { ⌜ length (now line) ≤ 2 * length (now octets) ⌝ }
-    ensures { λ r. ⌜ ((b : List ℕ) → Done (replayedBy t (saidLook (now (line .entry)))) b r) ⌝ }
-{
-    let Octets::Count(n) = words::octets_at(line, 1, octets) else {
-        return misread(t);
-    };
-    told(looking::look(t, &octets[..n]))
-}
-
-pub fn verdict_at(line: &[u8], i: usize) -> Verdict
-    ensures { λ r. ⌜ verdictAt (now (line .entry)) i ≡ verdictShown r ⌝ }
-{
-    let w = words::word(line, i);
+fn verdict(w: &[u8]) -> Number {
     if words::is_word(w, b"good") {
-        return Verdict::Is(true);
+        return Number::Is(1);
     }
     if words::is_word(w, b"bad") {
-        return Verdict::Is(false);
+        return Number::Is(0);
     }
-    Verdict::None
+    Number::None
 }
 
-pub fn room_of(n: u64) -> usize
-    ensures { λ r. ⌜ (r ≡ roomOf n) × (r ≤ 65535) ⌝ }
-{
-    if n < 65535 { n as usize } else { 65535 }
-}
-
-// A message call. The reply stands at the front of the lent buffer.
-fn answer<'a>(
-    t: Table,
-    time: u64,
-    good: bool,
-    octets: &'a [u8],
-    offer: &'a [u8],
-    reply: &mut [u8],
-) -> Ran
-    ensures { λ r. ⌜ Done (ended (called t (message time good (now (offer .entry)) (length (now (reply .entry))) (now (octets .entry)))))
-        (now (reply .exit)) r ⌝ }
-{
-    let o = server::message(t, time, good, octets, offer, reply);
-    let a = o.answer;
-    let u = o.table;
-    let k = Kind::Replied;
-    Ran {
-        kind: k,
-        answer: a,
-        table: u,
+// The number of an algorithm that the resolver knows.
+fn algorithm(w: &[u8]) -> Number {
+    let Number::Is(n) = words::read_number(w) else {
+        return Number::None;
+    };
+    match n {
+        256 | 384 | 512 => Number::Is(n),
+        _ => Number::None,
     }
 }
 
-fn run_message<'a>(
-    t: Table,
-    line: &[u8],
-    octets: &'a mut [u8],
-    offer: &'a mut [u8],
-    reply: &mut [u8],
-) -> Ran
-    requires { ⌜ (length (now line) ≤ 2 * length (now octets)) × (length (now line) ≤ 2 * length (now offer)) × (65535 ≤ length (now reply)) ⌝ }
-    ensures { λ r. ⌜ Done (replayedBy t (saidMessage (now (line .entry)))) (now (reply .exit)) r ⌝ }
-{
-    let Number::Is(time) = words::number_at(line, 1) else {
-        return misread(t);
+// ── Arguments ───────────────────────────────────────────────────────────────────────────────────────────────────────
+
+fn no_args() -> Args {
+    Args {
+        numbers: [0; 12],
+        spans: [Span { from: 0, size: 0 }; 12],
+        used: 0,
+        read: true,
+    }
+}
+
+fn misread(a: Args) -> Args {
+    let mut b = a;
+    b.read = false;
+    b
+}
+
+// With the number of word i, if it reads and is not over `most`.
+fn with_number(a: Args, i: usize, n: Number, most: u64) -> Args {
+    let Number::Is(x) = n else {
+        return misread(a);
     };
-    let Verdict::Is(verdict) = verdict_at(line, 2) else {
-        return misread(t);
+    if most < x {
+        return misread(a);
+    }
+    if 12 <= i {
+        return misread(a);
+    }
+    let mut b = a;
+    b.numbers[i] = x;
+    b
+}
+
+// With the octets of word i behind those that the arena holds, if it reads and has no more than `most`.
+fn with_octets(a: Args, i: usize, w: &[u8], most: usize, arena: &mut [u8]) -> Args {
+    let from = a.used;
+    let Octets::Count(size) = octets_into(w, tail(arena, from)) else {
+        return misread(a);
     };
-    let Octets::Count(k) = words::octets_at(line, 3, offer) else {
-        return misread(t);
-    };
-    let Number::Is(lent) = words::number_at(line, 4) else {
-        return misread(t);
-    };
-    let Octets::Count(n) = words::octets_at(line, 5, octets) else {
-        return misread(t);
-    };
-    let room = room_of(lent);
-    answer(
-        t,
-        time,
-        verdict,
-        &octets[..n],
-        &offer[..k],
-        &mut reply[..room],
-    )
+    if most < size {
+        return misread(a);
+    }
+    if 12 <= i {
+        return misread(a);
+    }
+    if arena.len() < size {
+        return misread(a);
+    }
+    if arena.len() - size < from {
+        return misread(a);
+    }
+    let mut b = a;
+    b.spans[i] = Span { from, size };
+    b.used = from + size;
+    b
+}
+
+// With word i, by its kind: `n` a number, `i` one of 16 bits, `t` one of 32 bits, `g` 256, 384 or 512; `v` good or bad; `o` octets, `k` 255 of them at most.
+fn with_word(a: Args, i: usize, kind: u8, w: &[u8], arena: &mut [u8]) -> Args {
+    match kind {
+        b'n' => with_number(a, i, words::read_number(w), 0xffff_ffff_ffff_ffff),
+        b'i' => with_number(a, i, words::read_number(w), 65535),
+        b't' => with_number(a, i, words::read_number(w), 0xffff_ffff),
+        b'g' => with_number(a, i, algorithm(w), 512),
+        b'v' => with_number(a, i, verdict(w), 1),
+        b'o' => with_octets(a, i, w, 100000, arena),
+        b'k' => with_octets(a, i, w, 255, arena),
+        _ => misread(a),
+    }
+}
+
+// The words behind the first, one of each kind in order, each behind one space.
+fn args_of(line: &[u8], kinds: &[u8], arena: &mut [u8]) -> Args {
+    let mut a = no_args();
+    let mut at = word_end(line, 0);
+    let mut i = 0;
+    while i < kinds.len() {
+        if line.len() <= at {
+            return misread(a);
+        }
+        let from = at + 1;
+        at = word_end(line, from);
+        a = with_word(a, i + 1, kinds[i], part(line, from, at), arena);
+        i += 1;
+    }
+    if at < line.len() {
+        return misread(a);
+    }
+    a
 }
 
 // ── A line ──────────────────────────────────────────────────────────────────────────────────────────────────────────
 
-// Whether a line of n words has this first word, and as many words as its call takes.
-pub fn is_call(line: &[u8], n: usize, word: &[u8]) -> bool
-    ensures { λ r. ⌜ r ≡ asks (now (line .entry)) n (now (word .entry)) ⌝ }
-{
-    if words::word_count(line) != n {
-        return false;
+fn unread() -> Command {
+    Command {
+        call: Call::Unread,
+        args: no_args(),
     }
-    words::is_word(words::word(line, 0), word)
 }
 
-fn call_of(line: &[u8]) -> Asked
-    ensures { λ r. ⌜ saidBy (now (line .entry)) ≡ askedAs (now (line .entry)) r ⌝ }
-{
-    if is_call(line, 1, b"list") {
-        return Asked::List;
+// The line as this call, with words of these kinds.
+fn command_of(call: Call, line: &[u8], kinds: &[u8], arena: &mut [u8]) -> Command {
+    let args = args_of(line, kinds, arena);
+    if args.read {
+        return Command { call, args };
     }
-    if is_call(line, 2, b"new") {
-        return Asked::New;
-    }
-    if is_call(line, 2, b"look") {
-        return Asked::Look;
-    }
-    if is_call(line, 3, b"revoke") {
-        return Asked::Revoke;
-    }
-    if is_call(line, 4, b"issue") {
-        return Asked::Issue;
-    }
-    if is_call(line, 6, b"enrol") {
-        return Asked::Enrol;
-    }
-    if is_call(line, 6, b"message") {
-        return Asked::Message;
-    }
-    Asked::Nothing
+    unread()
 }
 
-// Does what a line asks for to the table t. octets, offer and reply are lent; a message's reply stands at the front of the last.
-pub fn run_line<'a>(
-    t: Table,
-    line: &[u8],
-    octets: &'a mut [u8],
-    offer: &'a mut [u8],
-    reply: &mut [u8],
-) -> Ran
-    requires { ⌜ (100000 ≤ length (now octets)) × (100000 ≤ length (now offer)) × (65535 ≤ length (now reply)) ⌝ }
-    ensures { λ r. ⌜ Done (replayed t (now (line .entry))) (now (reply .exit)) r ⌝ }
-{
+fn table_call(call: TableCall, line: &[u8], kinds: &[u8], arena: &mut [u8]) -> Command {
+    command_of(Call::Table(call), line, kinds, arena)
+}
+
+fn resolver_call(call: ResolverCall, line: &[u8], kinds: &[u8], arena: &mut [u8]) -> Command {
+    command_of(Call::Resolver(call), line, kinds, arena)
+}
+
+fn signing_call(call: SigningCall, line: &[u8], kinds: &[u8], arena: &mut [u8]) -> Command {
+    command_of(Call::Signing(call), line, kinds, arena)
+}
+
+fn read_table_line(word: &[u8], line: &[u8], arena: &mut [u8]) -> Command {
+    if words::is_word(word, b"new") {
+        return table_call(TableCall::New, line, b"n", arena);
+    }
+    if words::is_word(word, b"enrol") {
+        return table_call(TableCall::Enrol, line, b"nonnn", arena);
+    }
+    if words::is_word(word, b"issue") {
+        return table_call(TableCall::Issue, line, b"nnn", arena);
+    }
+    if words::is_word(word, b"revoke") {
+        return table_call(TableCall::Revoke, line, b"nn", arena);
+    }
+    if words::is_word(word, b"look") {
+        return table_call(TableCall::Look, line, b"o", arena);
+    }
+    if words::is_word(word, b"message") {
+        return table_call(TableCall::Message, line, b"nvono", arena);
+    }
+    if words::is_word(word, b"list") {
+        return table_call(TableCall::List, line, b"", arena);
+    }
+    read_resolver_line(word, line, arena)
+}
+
+fn read_resolver_line(word: &[u8], line: &[u8], arena: &mut [u8]) -> Command {
+    if words::is_word(word, b"hold") {
+        return resolver_call(ResolverCall::Hold, line, b"kgtt", arena);
+    }
+    if words::is_word(word, b"renewal") {
+        return resolver_call(ResolverCall::Renewal, line, b"iogtton", arena);
+    }
+    if words::is_word(word, b"adoption") {
+        return resolver_call(ResolverCall::Adoption, line, b"in", arena);
+    }
+    if words::is_word(word, b"deletion") {
+        return resolver_call(ResolverCall::Deletion, line, b"in", arena);
+    }
+    if words::is_word(word, b"note") {
+        return resolver_call(ResolverCall::Note, line, b"i", arena);
+    }
+    if words::is_word(word, b"reply") {
+        return resolver_call(ResolverCall::Reply, line, b"vo", arena);
+    }
+    if words::is_word(word, b"keys") {
+        return resolver_call(ResolverCall::Keys, line, b"", arena);
+    }
+    read_signing_line(word, line, arena)
+}
+
+fn read_signing_line(word: &[u8], line: &[u8], arena: &mut [u8]) -> Command {
+    if words::is_word(word, b"digest-request") {
+        return signing_call(SigningCall::DigestRequest, line, b"oooniiion", arena);
+    }
+    if words::is_word(word, b"digest-reply") {
+        return signing_call(SigningCall::DigestReply, line, b"oooniiiono", arena);
+    }
+    if words::is_word(word, b"finish") {
+        return signing_call(SigningCall::Finish, line, b"oooniiiono", arena);
+    }
+    if words::is_word(word, b"read-back") {
+        return signing_call(SigningCall::ReadBack, line, b"o", arena);
+    }
+    if words::is_word(word, b"remove") {
+        return signing_call(SigningCall::Remove, line, b"on", arena);
+    }
+    unread()
+}
+
+// A line of at most 200,000 octets as a command; its octets stand in the arena, which 100,000 are enough for.
+pub fn read_line(line: &[u8], arena: &mut [u8]) -> Command {
     if 200000 < line.len() {
-        return misread(t);
+        return unread();
     }
-    match call_of(line) {
-        Asked::List => lists(t),
-        Asked::New => run_new(t, line),
-        Asked::Look => run_look(t, line, octets),
-        Asked::Revoke => run_revoke(t, line),
-        Asked::Issue => run_issue(t, line),
-        Asked::Enrol => run_enrol(t, line, octets),
-        Asked::Message => run_message(t, line, octets, offer, reply),
-        Asked::Nothing => misread(t),
+    read_table_line(part(line, 0, word_end(line, 0)), line, arena)
+}
+
+// ── What a command says ─────────────────────────────────────────────────────────────────────────────────────────────
+
+// Word number i as a number.
+pub fn number(a: Args, i: usize) -> u64 {
+    if i < 12 { a.numbers[i] } else { 0 }
+}
+
+// The octets of a span; none where it does not lie inside.
+pub fn spanned(s: &[u8], span: Span) -> &[u8] {
+    if s.len() < span.size {
+        return &s[..0];
     }
+    if s.len() - span.size < span.from {
+        return &s[..0];
+    }
+    part(s, span.from, span.from + span.size)
+}
+
+// Word number i as octets.
+pub fn octets(a: Args, i: usize, arena: &[u8]) -> &[u8] {
+    if 12 <= i {
+        return &arena[..0];
+    }
+    let span = a.spans[i];
+    spanned(arena, span)
 }

@@ -15,7 +15,7 @@ use mir.Syntax.{w64}
 use mir.Val.{Fits, SFits, toZ, ofZ}
 use mir.ValLaws.{toZ-pos, toZ-ofZ}
 use Rattle.model.specs.Names.{decimal}
-use Rattle.model.specs.Text.{numeral, signedNumeral, hexOf, octetsWord}
+use Rattle.model.specs.Text.{numeral, hexOf}
 
 -- ── Numbers ─────────────────────────────────────────────────────────────────────────────────────────────────────────
 
@@ -44,16 +44,6 @@ pub minus-one-less : (z : ℤ) → leZ (pos 0) z ≡ false → SFits w64 z → S
 minus-one-less (pos n) e f = absurd (false≢true (sym e ∙ le-leb 0 n (omega arith)))
 minus-one-less (negsuc n) e f = rw (le-ltb (suc n) 1 (omega arith)) (record { sfits = omega arith }, toZ-pos w64 (suc n - 1) (omega arith))
 
-pub signed-positive : (z : ℤ) → leZ (pos 0) z ≡ true → numeral (natAbs z) ≡ signedNumeral z
-unfolding signedNumeral
-signed-positive (pos n) e = refl
-signed-positive (negsuc n) e = absurd (false≢true e)
-
-pub signed-negative : (z : ℤ) → leZ (pos 0) z ≡ false → 45 ∷ decimal (natAbs z) ≡ signedNumeral z
-unfolding signedNumeral
-signed-negative (pos n) e = absurd (false≢true (sym e ∙ le-leb 0 n (omega arith)))
-signed-negative (negsuc n) e = ap (λ (ds : List ℕ). 45 ∷ ds) (numeral-some (suc n) (λ z. absurd (omega arith)))
-
 -- ── Octets ──────────────────────────────────────────────────────────────────────────────────────────────────────────
 
 hex-append : (xs ys : List ℕ) → hexOf (xs ++ ys) ≡ hexOf xs ++ hexOf ys
@@ -64,13 +54,3 @@ hex-append (x ∷ xs) ys = rw (hex-append xs ys) refl
 -- one octet more
 pub hex-more : (s : List ℕ) (i : ℕ) → i < length s → hexOf (take i s) ++ hexOf (getD s i 0 ∷ []) ≡ hexOf (take (i + 1) s)
 hex-more s i h = sym (hex-append (take i s) (getD s i 0 ∷ [])) ∙ rw (add-one, take-suc s i 0) refl
-
-pub word-none : (s : List ℕ) → length s ≡ 0 → 45 ∷ [] ≡ octetsWord s
-unfolding octetsWord
-word-none [] e = refl
-word-none (x ∷ xs) e = absurd (omega arith)
-
-pub word-some : (s : List ℕ) → (length s ≡ 0 → ⊥) → hexOf s ≡ octetsWord s
-unfolding octetsWord
-word-some [] n = absurd (n refl)
-word-some (x ∷ xs) n = refl

@@ -1,14 +1,12 @@
-// Numbers, octets and the lines of a replay as text (docs/SCRIPT.md) in a lent buffer, by positions: each writer takes the place and answers the next one.
+// Numbers, octets and algorithms as text in a lent buffer, by positions: each writer takes the place and answers the next one.
 use model::Algorithm;
-use model::Answer;
 ghost use mathlib.Core.Path.{_≡_};
 ghost use mathlib.Core.List.{[], _∷_};
 ghost use Prim.Native.Nat.{_+_, _*_, _/_, _%_, _≤_, _<_};
 ghost use lib.IntN.{natAbs};
 ghost use lib.ListN.{length};
 ghost use Rattle.model.specs.Listing.{algorithmWord};
-ghost use Rattle.model.specs.Text.{numeral, signedNumeral, hexDigit, hexOf, octetsWord, partedBy};
-ghost use Rattle.model.specs.Script.{resultLine, badLine};
+ghost use Rattle.model.specs.Text.{numeral, hexDigit, hexOf};
 ghost use Rattle.octets.specs.Wrote.{Wrote};
 
 // A number in decimal. Below 2^64 it has at most 20 digits.
@@ -23,26 +21,13 @@ pub fn number_into(buf: &mut [u8], at: usize, n: u64) -> usize
 }
 
 // How far n is from 0. (-1 - n fits for the least n too.)
-fn magnitude(n: i64) -> u64
+pub fn magnitude(n: i64) -> u64
     ensures { λ r. ⌜ r ≡ natAbs n ⌝ }
 {
     if 0 <= n {
         return n as u64;
     }
     ((-1 - n) as u64) + 1
-}
-
-// A signed number in decimal: at most 19 digits, with a `-` before those of a negative one.
-pub fn signed_into(buf: &mut [u8], at: usize, n: i64) -> usize
-    requires { ⌜ at + 20 ≤ length (now buf) ⌝ }
-    ensures { λ r. ⌜ (r ≤ at + 20) × Wrote (signedNumeral n) at (now (buf .entry)) (now (buf .exit)) r ⌝ }
-{
-    let size = magnitude(n);
-    if 0 <= n {
-        return number_into(buf, at, size);
-    }
-    let next = octets::u8_into(buf, at, 45);
-    names::decimal_into(buf, next, size)
 }
 
 fn hex_digit(n: u8) -> u8
@@ -75,17 +60,6 @@ pub fn hex_into(buf: &mut [u8], at: usize, s: &[u8]) -> usize
     next
 }
 
-// Octets as a word: `-` for none.
-pub fn octets_into(buf: &mut [u8], at: usize, s: &[u8]) -> usize
-    requires { ⌜ at + 1 + 2 * length (now s) ≤ length (now buf) ⌝ }
-    ensures { λ r. ⌜ (r ≤ at + 1 + 2 * length (now (s .entry))) × Wrote (octetsWord (now (s .entry))) at (now (buf .entry)) (now (buf .exit)) r ⌝ }
-{
-    if s.len() == 0 {
-        return octets::u8_into(buf, at, 45);
-    }
-    hex_into(buf, at, s)
-}
-
 // A number as a further field of a line: its separator stands before it.
 pub fn number_field(buf: &mut [u8], at: usize, separator: u8, n: u64) -> usize
     requires { ⌜ at + 21 ≤ length (now buf) ⌝ }
@@ -105,41 +79,4 @@ pub fn algorithm_field(buf: &mut [u8], at: usize, g: Algorithm) -> usize
         Algorithm::Sha384 => octets::all_into(buf, at, b"\thmac-sha384"),
         Algorithm::Sha512 => octets::all_into(buf, at, b"\thmac-sha512"),
     }
-}
-
-// The fields of a result after its skew, and the newline.
-fn result_end(buf: &mut [u8], at: usize, a: Answer, reply: &[u8]) -> usize
-    requires { ⌜ at + 45 + 2 * length (now reply) ≤ length (now buf) ⌝ }
-    ensures { λ r. ⌜ (r ≤ at + 45 + 2 * length (now (reply .entry)))
-        × Wrote (partedBy 32 (numeral (a .pair) ∷ numeral (a .serial) ∷ octetsWord (now (reply .entry)) ∷ [])) at (now (buf .entry)) (now (buf .exit)) r ⌝ }
-{
-    let next = number_field(buf, at, 32, a.pair);
-    let next = number_field(buf, next, 32, a.serial);
-    let next = octets::u8_into(buf, next, 32);
-    let next = octets_into(buf, next, reply);
-    octets::u8_into(buf, next, 10)
-}
-
-// The line of a result: NUMBER LENGTH TSIGERROR SKEW PAIR SERIAL REPLY.
-pub fn result_into(buf: &mut [u8], at: usize, a: Answer, reply: &[u8]) -> usize
-    requires { ⌜ at + 128 + 2 * length (now reply) ≤ length (now buf) ⌝ }
-    ensures { λ r. ⌜ (r ≤ at + 128 + 2 * length (now (reply .entry)))
-        × Wrote (resultLine (record { answer = a; reply = now (reply .entry) })) at (now (buf .entry)) (now (buf .exit)) r ⌝ }
-{
-    let next = number_into(buf, at, a.number);
-    let next = number_field(buf, next, 32, a.length);
-    let next = number_field(buf, next, 32, a.error);
-    let next = octets::u8_into(buf, next, 32);
-    let next = signed_into(buf, next, a.skew);
-    result_end(buf, next, a, reply)
-}
-
-// The line for a line of the script that does not read.
-pub fn bad_line_into(buf: &mut [u8], at: usize, n: u64) -> usize
-    requires { ⌜ at + 30 ≤ length (now buf) ⌝ }
-    ensures { λ r. ⌜ (r ≤ at + 30) × Wrote (badLine n) at (now (buf .entry)) (now (buf .exit)) r ⌝ }
-{
-    let next = octets::all_into(buf, at, b"bad line");
-    let next = number_field(buf, next, 32, n);
-    octets::u8_into(buf, next, 10)
 }

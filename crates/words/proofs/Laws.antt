@@ -1,127 +1,18 @@
--- Laws of words, numbers and octets as text, one octet on. Assumes nothing.
-use Prim.Native.Nat.{ℕ, zero, suc, _+_, _-_, _*_, _≤_, _<_}
+-- Laws of two words, of numbers and of octets as text, one octet on. Assumes nothing.
+use Prim.Native.Nat.{ℕ, suc, _+_, _-_, _*_, _≤_, _<_}
 use mathlib.Core.Path.{_≡_, refl, sym, _∙_, ap}
-use mathlib.Core.Bool.{Bool, true, false, cond, _&&_}
+use mathlib.Core.Bool.{true, false, _&&_}
 use mathlib.Core.Option.{Option, none, some}
-use mathlib.Core.List.{List, [], _∷_, _++_, append-nil, append-assoc}
+use mathlib.Core.List.{List, [], _∷_, _++_, append-assoc}
 use native.Mathlib.Omega.{arith}
 use native.Mathlib.Numerals.{add-one}
-use lib.ListN.{length, take, drop, getD, drop-of-length-le, length-drop, length-take}
-use lib.Seq.{drop-cons, take-suc, getD-drop}
+use lib.ListN.{length, drop, getD, drop-of-length-le}
+use lib.Seq.{drop-cons}
 use lib.Dec.{eqb, ltb}
 use borrow.Author.Tests.{eq-eqb, ne-eqb, le-leb, lt-leb, lt-ltb, le-ltb}
 use Rattle.model.proofs.Tests.{and-false}
-use Rattle.model.specs.Octets.{part}
-use Rattle.model.specs.Text.{isWord, isDigit, onlyIf, numberFrom, numberOf, nibble, octetBefore, unhex, octetsOf}
+use Rattle.model.specs.Text.{isWord, isDigit, onlyIf, numberFrom, numberOf, nibble, octetBefore, unhex}
 use Rattle.words.specs.Reads.{nibbleShown}
-use Rattle.model.specs.Script.{onto, wordStep, wordsOf, wordAt}
-
--- ── Words ───────────────────────────────────────────────────────────────────────────────────────────────────────────
-
-onto-more : (x : ℕ) (ws : List (List ℕ)) → 1 ≤ length (onto x ws)
-onto-more x [] = omega arith
-onto-more x (w ∷ ws) = omega arith
-
-step-more : (b : Bool) (x : ℕ) (ws : List (List ℕ)) → 1 ≤ length (wordStep b x ws)
-step-more true x ws = omega arith
-step-more false x ws = onto-more x ws
-
-pub has-word : (s : List ℕ) → 1 ≤ length (wordsOf s)
-unfolding wordsOf
-has-word [] = omega arith
-has-word (x ∷ xs) = step-more (eqb x 32) x (wordsOf xs)
-
-onto-length : (x : ℕ) (ws : List (List ℕ)) → 1 ≤ length ws → length (onto x ws) ≡ length ws
-onto-length x [] h = omega (arith, h)
-onto-length x (w ∷ ws) h = refl
-
-onto-first : (x : ℕ) (ws : List (List ℕ)) → getD (onto x ws) 0 [] ≡ x ∷ getD ws 0 []
-onto-first x [] = refl
-onto-first x (w ∷ ws) = refl
-
-onto-later : (x : ℕ) (ws : List (List ℕ)) (k : ℕ) → getD (onto x ws) (suc k) [] ≡ getD ws (suc k) []
-onto-later x [] k = refl
-onto-later x (w ∷ ws) k = refl
-
-module _ (s : List ℕ) (i : ℕ) where
-  at-space : i < length s → getD s i 0 ≡ 32 → wordsOf (drop i s) ≡ [] ∷ wordsOf (drop (i + 1) s)
-  unfolding wordsOf
-  at-space h e = rw (drop-cons s i 0 h, e, add-one) refl
-
-  at-other : i < length s → (getD s i 0 ≡ 32 → ⊥) → wordsOf (drop i s) ≡ onto (getD s i 0) (wordsOf (drop (i + 1) s))
-  unfolding wordsOf
-  at-other h e = rw (drop-cons s i 0 h, wordsOf, ne-eqb _ _ e, add-one) refl
-
-  at-end : length s ≤ i → wordsOf (drop i s) ≡ [] ∷ []
-  unfolding wordsOf
-  at-end h = rw (drop-of-length-le s h) refl
-
-  -- How many words are left.
-  pub count-space : i < length s → getD s i 0 ≡ 32 → length (wordsOf (drop i s)) ≡ suc (length (wordsOf (drop (i + 1) s)))
-  count-space h e = ap length (at-space h e)
-
-  pub count-other : i < length s → (getD s i 0 ≡ 32 → ⊥) → length (wordsOf (drop i s)) ≡ length (wordsOf (drop (i + 1) s))
-  count-other h e = ap length (at-other h e) ∙ onto-length (getD s i 0) (wordsOf (drop (i + 1) s)) (has-word (drop (i + 1) s))
-
-  pub count-end : length s ≤ i → length (wordsOf (drop i s)) ≡ 1
-  count-end h = ap length (at-end h)
-
-  -- The word k words on, seen from the next octet.
-  pub later-space : i < length s → getD s i 0 ≡ 32 → (k : ℕ) → wordAt (drop i s) (suc k) ≡ wordAt (drop (i + 1) s) k
-  unfolding wordAt
-  later-space h e k = ap (λ (ws : List (List ℕ)). getD ws (suc k) []) (at-space h e)
-
-  pub later-other : i < length s → (getD s i 0 ≡ 32 → ⊥) → (k : ℕ) → wordAt (drop i s) (suc k) ≡ wordAt (drop (i + 1) s) (suc k)
-  unfolding wordAt
-  later-other h e k = ap (λ (ws : List (List ℕ)). getD ws (suc k) []) (at-other h e) ∙ onto-later (getD s i 0) (wordsOf (drop (i + 1) s)) k
-
-  pub none-left : length s ≤ i → (k : ℕ) → wordAt (drop i s) k ≡ []
-  unfolding wordAt
-  none-left h zero = ap (λ (ws : List (List ℕ)). getD ws 0 []) (at-end h)
-  none-left h (suc k) = ap (λ (ws : List (List ℕ)). getD ws (suc k) []) (at-end h)
-
-  -- The first word, seen from the next octet.
-  pub first-space : i < length s → getD s i 0 ≡ 32 → wordAt (drop i s) 0 ≡ []
-  unfolding wordAt
-  first-space h e = ap (λ (ws : List (List ℕ)). getD ws 0 []) (at-space h e)
-
-  pub first-other : i < length s → (getD s i 0 ≡ 32 → ⊥) → wordAt (drop i s) 0 ≡ getD s i 0 ∷ wordAt (drop (i + 1) s) 0
-  unfolding wordAt
-  first-other h e = ap (λ (ws : List (List ℕ)). getD ws 0 []) (at-other h e) ∙ onto-first (getD s i 0) (wordsOf (drop (i + 1) s))
-
-  -- The word k words on, k not 0, past the octet here.
-  pub pass-space : i < length s → getD s i 0 ≡ 32 → (k : ℕ) → (k ≡ 0 → ⊥) → wordAt (drop (i + 1) s) (k - 1) ≡ wordAt (drop i s) k
-  pass-space h e zero z = absurd (z refl)
-  pass-space h e (suc k) z = ap (wordAt (drop (i + 1) s)) (omega arith) ∙ sym (later-space h e k)
-
-  pub pass-other : i < length s → (getD s i 0 ≡ 32 → ⊥) → (k : ℕ) → (k ≡ 0 → ⊥) → wordAt (drop (i + 1) s) k ≡ wordAt (drop i s) k
-  pass-other h e zero z = absurd (z refl)
-  pass-other h e (suc k) z = sym (later-other h e k)
-
--- What has been passed of a word, and what is left of it.
-pub part-none : (s : List ℕ) (from : ℕ) (w : List ℕ) → part s from (from - from) ++ w ≡ w
-unfolding part
-part-none s from w = let none : from - from ≡ 0 = omega arith in ap (λ (n : ℕ). take n (drop from s) ++ w) none
-
-pub short : (s : List ℕ) (from to : ℕ) → length (take (to - from) (drop from s)) ≤ length s
-short s from to = rw (length-take, length-drop) (omega arith)
-
-pub ended : (xs w : List ℕ) → w ≡ [] → xs ≡ xs ++ w
-ended xs w e = sym (ap (λ (r : List ℕ). xs ++ r) e ∙ append-nil xs)
-
-pub part-more :
-    (s : List ℕ) (from i : ℕ) → from ≤ i → i < length s → (getD s i 0 ≡ 32 → ⊥)
-    → part s from (i + 1 - from) ++ wordAt (drop (i + 1) s) 0 ≡ part s from (i - from) ++ wordAt (drop i s) 0
-unfolding part
-part-more s from i h l e =
-    let is : i + 1 - from ≡ suc (i - from) = omega arith in
-    let there : from + (i - from) ≡ i = omega arith in
-    ap (λ (n : ℕ). take n (drop from s) ++ wordAt (drop (i + 1) s) 0) is
-    ∙ ap (λ (r : List ℕ). r ++ wordAt (drop (i + 1) s) 0) (take-suc (drop from s) (i - from) 0 (rw (length-drop from s) (omega arith)))
-    ∙ append-assoc (take (i - from) (drop from s)) _ _
-    ∙ ap
-    (λ (r : List ℕ). take (i - from) (drop from s) ++ r)
-    (ap (λ (x : ℕ). x ∷ wordAt (drop (i + 1) s) 0) (getD-drop from s (i - from) 0 ∙ ap (λ (k : ℕ). getD s k 0) there) ∙ sym (first-other s i l e))
 
 -- ── Two words ───────────────────────────────────────────────────────────────────────────────────────────────────────
 
@@ -242,20 +133,3 @@ module _ (w : List ℕ) (i : ℕ) where
   pub even : length w ≤ i → unhex (drop i w) ≡ some []
   unfolding unhex
   even l = rw (drop-of-length-le w l) refl
-
-pub no-word : (w : List ℕ) → length w ≡ 0 → octetsOf w ≡ none
-unfolding octetsOf
-no-word [] e = refl
-no-word (c ∷ cs) e = absurd (omega (arith, e))
-
--- Of a word that is not empty: `-`, or any other.
-either : (w : List ℕ) → (length w ≡ 0 → ⊥) → octetsOf w ≡ cond (isWord w (45 ∷ [])) (some []) (unhex w)
-unfolding octetsOf
-either [] e = absurd (e refl)
-either (c ∷ cs) e = refl
-
-pub dashed : (w : List ℕ) → (length w ≡ 0 → ⊥) → isWord w (45 ∷ []) ≡ true → octetsOf w ≡ some []
-dashed w some-octet e = either w some-octet ∙ simp e
-
-pub hexed : (w : List ℕ) → (length w ≡ 0 → ⊥) → isWord w (45 ∷ []) ≡ false → octetsOf w ≡ unhex w
-hexed w some-octet e = either w some-octet ∙ simp e

@@ -1,6 +1,4 @@
--- `replay::run_all` ends, and lends its callees what they ask. The loop's invariant: what is kept of the line fits, and no buffer changes its length.
--- Assumes nothing.
-use Prim.Native.Nat.{_≤_}
+-- `replay::run_all` is safe and ends: the turns that are left fall, and the buffers keep their lengths. Assumes nothing.
 use mathlib.Core.Path.{_≡_}
 use lib.ListN.{length}
 use borrow.Author.Needs.{needs}
@@ -8,12 +6,10 @@ use Rattle.replay.proofs.run_all.Statement.{statement}
 use Rattle.replay.proofs.run_all.Tie as tie
 
 abbrev Inv-loop : tie.InvT-loop
-Inv-loop input₀ line₀ octets₀ offer₀ reply₀ text₀ f₀ turns₀ input line octets offer reply text f turns =
-    (f .used ≤ 200001) × (length input ≡ length input₀) × (length line ≡ length line₀) × (length octets ≡ length octets₀) × (length offer ≡ length offer₀) × (length reply ≡ length reply₀) × (length text ≡ length text₀)
+Inv-loop input₀ line₀ arena₀ out₀ text₀ r₀ turns₀ input line arena out text r turns = (length input ≡ length input₀) × (length line ≡ length line₀) × (length arena ≡ length arena₀) × (length out ≡ length out₀) × (length text ≡ length text₀)
 
 abbrev μ-loop : tie.MeasureT-loop
-μ-loop input₀ line₀ octets₀ offer₀ reply₀ text₀ f₀ turns₀ input line octets offer reply text f turns =
-    turns
+μ-loop input₀ line₀ arena₀ out₀ text₀ r₀ turns₀ input line arena out text r turns = turns
 
 loop-holds : tie.Need-loop-holds Inv-loop μ-loop
 loop-holds c = search needs
@@ -45,9 +41,6 @@ same-length-4 c = search needs
 same-length-5 : tie.Need-same-length-5 Inv-loop μ-loop
 same-length-5 c = search needs
 
-same-length-6 : tie.Need-same-length-6 Inv-loop μ-loop
-same-length-6 c = search needs
-
 returns : tie.Need-returns Inv-loop μ-loop
 returns c = search needs
 
@@ -67,5 +60,4 @@ run-all-spec =
     same-length-3
     same-length-4
     same-length-5
-    same-length-6
     returns)

@@ -1,0 +1,105 @@
+// What the replay prints (docs/SCRIPT.md), in a lent buffer, by positions: each writer takes the place and answers the next one. A buffer that is full takes no
+// more; the program's holds the longest result.
+use model::Algorithm;
+use model::Answer;
+
+// The first n octets of s, or all of them.
+pub fn front(s: &[u8], n: usize) -> &[u8] {
+    if s.len() < n {
+        return s;
+    }
+    &s[0..n]
+}
+
+pub fn octet(text: &mut [u8], at: usize, x: u8) -> usize {
+    if at < text.len() {
+        text[at] = x;
+        return at + 1;
+    }
+    at
+}
+
+pub fn all(text: &mut [u8], at: usize, s: &[u8]) -> usize {
+    let mut next = at;
+    let mut i = 0;
+    while i < s.len() {
+        next = octet(text, next, s[i]);
+        i += 1;
+    }
+    next
+}
+
+pub fn number(text: &mut [u8], at: usize, n: u64) -> usize {
+    let mut digits = [0u8; 20];
+    let count = text::number_into(&mut digits[..], 0, n);
+    let some = &digits[..];
+    all(text, at, front(some, count))
+}
+
+// A number behind its separator.
+pub fn number_field(text: &mut [u8], at: usize, separator: u8, n: u64) -> usize {
+    let next = octet(text, at, separator);
+    number(text, next, n)
+}
+
+// A signed number behind a space.
+fn signed_field(text: &mut [u8], at: usize, n: i64) -> usize {
+    let size = text::magnitude(n);
+    if 0 <= n {
+        return number_field(text, at, b' ', size);
+    }
+    let next = octet(text, at, b' ');
+    number_field(text, next, b'-', size)
+}
+
+fn digit(n: u8) -> u8 {
+    let d = n % 16;
+    if d < 10 { 48 + d } else { 87 + d }
+}
+
+// Octets in lower-case hexadecimal, behind a separator; `-` for none.
+pub fn octets_field(text: &mut [u8], at: usize, separator: u8, s: &[u8]) -> usize {
+    let mut next = octet(text, at, separator);
+    if s.len() == 0 {
+        return octet(text, next, b'-');
+    }
+    let mut i = 0;
+    while i < s.len() {
+        next = octet(text, next, digit(s[i] / 16));
+        next = octet(text, next, digit(s[i]));
+        i += 1;
+    }
+    next
+}
+
+// An algorithm's name behind a tab.
+pub fn algorithm_field(text: &mut [u8], at: usize, g: Algorithm) -> usize {
+    match g {
+        Algorithm::Sha256 => all(text, at, b"\thmac-sha256"),
+        Algorithm::Sha384 => all(text, at, b"\thmac-sha384"),
+        Algorithm::Sha512 => all(text, at, b"\thmac-sha512"),
+    }
+}
+
+fn result_end(text: &mut [u8], at: usize, a: Answer, reply: &[u8]) -> usize {
+    let next = number_field(text, at, b' ', a.pair);
+    let next = number_field(text, next, b' ', a.serial);
+    let next = octets_field(text, next, b' ', reply);
+    octet(text, next, b'\n')
+}
+
+// NUMBER LENGTH TSIGERROR SKEW PAIR SERIAL REPLY
+pub fn result(text: &mut [u8], a: Answer, reply: &[u8]) -> usize {
+    let next = number(text, 0, a.number);
+    let next = number_field(text, next, b' ', a.length);
+    let next = number_field(text, next, b' ', a.error);
+    let next = signed_field(text, next, a.skew);
+    result_end(text, next, a, reply)
+}
+
+// The line for line number n of the script, which does not read.
+pub fn bad_line(text: &mut [u8], n: u64) -> usize {
+    let next = all(text, 0, b"bad line");
+    let next = number_field(text, next, b' ', n);
+    octet(text, next, b'\n')
+}

@@ -172,6 +172,14 @@ fn skew(time_signed: u64, time: u64) -> i64 {
     time_signed as i64 - time as i64
 }
 
+/// 02 CR 5: seconds from inception forward to expiration on a ring of 2^32,
+/// under half of it. RFC 2930 §2.4, RFC 1982 §3.2.
+fn is_good_interval(inception: u32, expiration: u32) -> bool {
+    const RING: u64 = 1 << 32;
+    let forward = (RING + u64::from(expiration) - u64::from(inception)) % RING;
+    forward != 0 && forward < RING / 2
+}
+
 /// 01 "Renewal"; 002 §2.3 and §2.5.2.
 fn renewal<'a>(
     case: &Case<'_, 'a>,
@@ -189,7 +197,7 @@ fn renewal<'a>(
     let Some(algorithm) = Algorithm::from_name(tkey.algorithm) else {
         return Outcome::Failed(BADALG);
     };
-    if tkey.expiration <= tkey.inception {
+    if !is_good_interval(tkey.inception, tkey.expiration) {
         return Outcome::Failed(BADTIME);
     }
     if pair.next_serial >= SERIAL_LIMIT || case.offer.is_empty() {

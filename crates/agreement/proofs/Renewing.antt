@@ -31,7 +31,7 @@ use Rattle.model.specs.Tsig.{anyClass}
 use Rattle.model.specs.Tkey.{Old, tkeyType, keyType, modeOf, namesOld, oldOf}
 use Rattle.model.specs.Pairs.{withKeys, made, revokedKey, renewedKeys, renewed}
 use Rattle.model.specs.Tables.{noPair, pairAt, withPair, withClock, namesOf, tableRules}
-use Rattle.model.specs.Judging.{formErr, servFail, badKey, badAlg, badTime, adoptedOf, waitingOf, isKey, signerOf, heldSuffix, heldPair, goodInterval, canRenew, renewalOf, changed}
+use Rattle.model.specs.Judging.{formErr, servFail, badKey, badAlg, badTime, adoptedOf, waitingOf, isKey, signerOf, heldSuffix, heldPair, goodTimes, goodInterval, canRenew, renewalOf, changed}
 use Rattle.model.specs.Replies.{heading, recordOctets, tkeyRecord, granted, echoed, renewedReply, replyOf, errorOf}
 use Rattle.model.specs.Calls.{holderAt}
 use Rattle.model.specs.Resolver.{nameOf, oldKey, usable, adoptedKey, offeredKey, closed, opened, TkeyAnswer, offeredBy, renewedIn, rootOr, requestOctets, renewalOctets, writtenRenewal, readReply}
@@ -272,12 +272,12 @@ module _ (b : Sides) (i : ℕ) (e : Agree i b) (x : Turn) (asked : List ℕ) (g 
 
   -- ── In the key's time and fudge, a key is granted ─────────────────────────────────────────────────────────────────
 
-  module _ (spare : p .«next_serial» < 2 ^ 32) (interval : inception < expiration) (some-offer : 0 < length (x .offer)) (ready : InTime a x) (room : Room b x) where
+  module _ (spare : p .«next_serial» < 2 ^ 32) (interval : goodTimes inception expiration ≡ true) (some-offer : 0 < length (x .offer)) (ready : InTime a x) (room : Room b x) where
     grants : decision b i x posed ≡ Renews g
     unfolding posed modeOf namesOld renewalOf goodInterval canRenew
     grants =
         decision-is b i x posed a (row .adopted) (row .same) ready refl
-        ∙ rw (is-key t i k a (row .same), named-back g, lt-ltb inception expiration interval, lt-ltb (p .«next_serial») 0x1_0000_0000 spare, ne-eqb (length (x .offer)) 0 (λ z. omega arith)) refl
+        ∙ rw (is-key t i k a (row .same), named-back g, interval, lt-ltb (p .«next_serial») 0x1_0000_0000 spare, ne-eqb (length (x .offer)) 0 (λ z. omega arith)) refl
 
     hears-it : readReply (asksIn scene) (x .replyGood) (replyFor scene (Renews g)) .number ≡ 0
     unfolding posed errorOf
@@ -321,7 +321,7 @@ module _ (b : Sides) (i : ℕ) (e : Agree i b) (x : Turn) (asked : List ℕ) (g 
           agrees = rw sides at agrees;
         })
 
-  pub grants-both : (a : Key) → adoptedOf (pairAt (b .table) i .keys) ≡ some a → pairAt (b .table) i .«next_serial» < 2 ^ 32 → inception < expiration → 0 < length (x .offer) → InTime a x → Room b x
+  pub grants-both : (a : Key) → adoptedOf (pairAt (b .table) i .keys) ≡ some a → pairAt (b .table) i .«next_serial» < 2 ^ 32 → goodTimes inception expiration ≡ true → 0 < length (x .offer) → InTime a x → Room b x
       → Granted i b (exchanged b x) g a
   grants-both a′ is spare interval some-offer ready room =
       let same : a ≡ a′ = Option·some-injective a a′ (sym (row .adopted) ∙ is) in

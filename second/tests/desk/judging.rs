@@ -453,18 +453,26 @@ fn renewal_algorithm_and_times() {
     }
     for (inception, expiration, error) in [
         (0, 1, 0),
-        (0, u32::MAX, 0),
-        (0, 3_000_000_000, 0),
         (u32::MAX - 1, u32::MAX, 0),
-        (0, 0, 18),
+        (u32::MAX, 0, 0),
+        (4_294_967_000, 1000, 0),
+        (0, 0x7fff_ffff, 0),
+        (0x8000_0001, 0, 0),
+        (0, 0x8000_0000, 18),
+        (0x8000_0000, 0, 18),
+        (0, 0x8000_0001, 18),
+        (0x7fff_ffff, 0, 18),
+        (0, 3_000_000_000, 18),
+        (0, u32::MAX, 18),
         (5, 4, 18),
-        (4_294_967_000, 1000, 18),
+        (0, 0, 18),
+        (u32::MAX, u32::MAX, 18),
     ] {
         let draft = renewal(|tkey| {
             tkey.inception = inception;
             tkey.expiration = expiration;
         });
-        assert_eq!(asked(day(), &draft).0, error);
+        assert_eq!(asked(day(), &draft).0, error, "{inception} to {expiration}");
     }
 }
 

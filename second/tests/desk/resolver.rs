@@ -742,6 +742,7 @@ fn both_halves() {
     let record = key_record();
     let wish = Wish {
         algorithm: Algorithm::Sha256,
+        expiration: 1600,
         ..wish(&[0], &record)
     };
     let renewal = |r: &mut Resolver, b: &mut [u8]| r.renewal(1, &wish, b);

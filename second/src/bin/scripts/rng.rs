@@ -51,6 +51,11 @@ impl Rng {
         *self.pick(&crate::wire::ALGORITHMS)
     }
 
+    /// So that the interval is good (02 CR 5), over the wrap or not.
+    pub fn expiration_after(&mut self, inception: u32) -> u32 {
+        inception.wrapping_add(self.within(1, 0x7fff_ffff) as u32)
+    }
+
     /// The same name to a reader that ignores case, other octets to one that does not.
     pub fn mixed_case(&mut self, name: &[u8]) -> Vec<u8> {
         name.iter()

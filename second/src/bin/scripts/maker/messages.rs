@@ -115,14 +115,14 @@ impl Maker<'_> {
         let name = self.question_name(s);
         let mut ask = self.blank(name, wire::TKEY, wire::ANY);
         self.dress(&mut ask);
-        let inception = self.rng.below(1 << 31) as u32;
+        let inception = self.rng.next() as u32;
         ask.tkey = Some(Tkey {
             owner: owner.to_vec(),
             class: *self.rng.pick(&[255, 255, 1]),
             ttl: *self.rng.pick(&[0, 0, 3600]),
             algorithm: s.algorithm_name(),
             inception,
-            expiration: inception + self.rng.within(1, 1 << 30) as u32,
+            expiration: self.rng.expiration_after(inception),
             mode,
             error: *self.rng.pick(&[0, 0, 0, 17]),
             key: self.rng.some_octets(0, 12),

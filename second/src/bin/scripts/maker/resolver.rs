@@ -202,7 +202,7 @@ impl Maker<'_> {
 
     /// A wish that the desk grants.
     pub fn wish(&mut self) -> Wish {
-        let inception = self.rng.below(1 << 31) as u32;
+        let inception = self.rng.next() as u32;
         let owner = self.some_key().name;
         let data = self.rng.some_octets(0, 24);
         let mut key = wire::record(&owner, wire::KEY, wire::IN, &data);
@@ -215,7 +215,7 @@ impl Maker<'_> {
             },
             algorithm: self.rng.algorithm(),
             inception,
-            expiration: inception + self.rng.within(1, 1 << 30) as u32,
+            expiration: self.rng.expiration_after(inception),
             key,
         }
     }

@@ -364,8 +364,8 @@ fn tkey_error(maker: &mut Maker, item: &str) -> bool {
     let mut order = maker.order(kind);
     if item.starts_with("18") {
         let mut wish = maker.wish();
-        wish.expiration = wish.inception;
-        wish.inception += u32::from(!item.ends_with("alike"));
+        let later = u32::from(!item.ends_with("alike"));
+        wish.inception = wish.expiration.wrapping_add(later);
         order = maker.renewal_order(order.id, &wish);
     }
     let key = maker.signing_key(&order);

@@ -2,7 +2,7 @@
 
 use super::{cross, list, two_words, Group};
 use crate::desk::{Outcome, Want};
-use crate::maker::{tsig, Maker, Signer, TOP};
+use crate::maker::{tkey, tsig, Maker, Signer, TOP};
 use crate::wire::{self, Ask};
 
 pub fn groups() -> Vec<Group> {
@@ -36,6 +36,12 @@ pub fn groups() -> Vec<Group> {
             weight: 2,
             items: || list(&SIGNED),
             run: time_signed,
+        },
+        Group {
+            name: "requested times",
+            weight: 60,
+            items: || cross(&APART, &PLACED),
+            run: requested,
         },
     ]
 }
@@ -343,4 +349,53 @@ fn time_signed(maker: &mut Maker, item: &str) -> bool {
     let as_wanted = maker.asks(&call, &ask, want);
     maker.era();
     as_wanted
+}
+
+/// From inception forward to expiration; 1296 and 3000000000 are 02's own.
+const APART: [&str; 8] = [
+    "0",
+    "1",
+    "1296",
+    "2^31 - 1",
+    "2^31",
+    "2^31 + 1",
+    "3000000000",
+    "2^32 - 1",
+];
+
+/// The first two do not cross the wrap, the next two cross it unless they are 0 apart.
+const PLACED: [&str; 5] = [
+    "from 0",
+    "to 2^32 - 1",
+    "to 0",
+    "from 2^32 - 1",
+    "from 4294967000",
+];
+
+/// 02 CR 5.
+fn requested(maker: &mut Maker, item: &str) -> bool {
+    let (apart, placed) = two_words(item);
+    let (distance, error): (u32, u16) = match apart {
+        "0" => (0, 18),
+        "1" => (1, 0),
+        "1296" => (1296, 0),
+        "2^31 - 1" => (0x7fff_ffff, 0),
+        "2^31" => (0x8000_0000, 18),
+        "2^31 + 1" => (0x8000_0001, 18),
+        "3000000000" => (3_000_000_000, 18),
+        _ => (u32::MAX, 18),
+    };
+    let inception = match placed {
+        "from 0" => 0,
+        "to 2^32 - 1" => u32::MAX - distance,
+        "to 0" => 0u32.wrapping_sub(distance),
+        "from 2^32 - 1" => u32::MAX,
+        _ => 4_294_967_000,
+    };
+    let s = maker.live();
+    let mut ask = maker.renewal(&s);
+    tkey(&mut ask).inception = inception;
+    tkey(&mut ask).expiration = inception.wrapping_add(distance);
+    let call = maker.call(s.time);
+    maker.asks(&call, &ask, Want::Tkey(error))
 }

@@ -316,7 +316,7 @@ fn other_data(maker: &mut Maker, item: &str) -> bool {
     asked(maker, &s, &ask, want)
 }
 
-const RENEWALS: [&str; 41] = [
+const RENEWALS: [&str; 38] = [
     "granted, no waiting key",
     "granted again",
     "granted to a revoked key",
@@ -333,11 +333,8 @@ const RENEWALS: [&str; 41] = [
     "NAME the root",
     "NAME of 255 octets",
     "expiration = inception + 1",
-    "expiration 2^32 - 1, inception 0",
     "expiration = inception",
     "expiration = inception - 1",
-    "expiration 0, inception 2^32 - 1",
-    "expiration 0, inception 0",
     "OldName of no key",
     "OldName of the waiting key",
     "OldName of another pair's key",
@@ -412,10 +409,7 @@ fn renewal_error(fault: &str) -> u16 {
         "OldName in other case" | "OldAlgorithm in other case" => 0,
         "no KEY" | "two KEYs" | "KEY in the answer only" | "KEY in the authority only" => 1,
         "empty offer" => 2,
-        "expiration = inception"
-        | "expiration = inception - 1"
-        | "expiration 0, inception 2^32 - 1"
-        | "expiration 0, inception 0" => 18,
+        "expiration = inception" | "expiration = inception - 1" => 18,
         "algorithm unknown" | "algorithm the root" | "algorithm with a label more" => 21,
         _ if fault.starts_with("Old") => 17,
         _ => 0,
@@ -472,15 +466,12 @@ fn bend_old(maker: &mut Maker, s: &Signer, ask: &mut Ask, fault: &str) {
 }
 
 fn bend_times(maker: &mut Maker, ask: &mut Ask, fault: &str) {
-    let any = maker.rng.within(1, 0xffff_fffe) as u32;
+    let any = maker.rng.next() as u32;
     let t = tkey(ask);
     (t.inception, t.expiration) = match fault {
-        "expiration = inception + 1" => (any, any + 1),
-        "expiration 2^32 - 1, inception 0" => (0, u32::MAX),
+        "expiration = inception + 1" => (any, any.wrapping_add(1)),
         "expiration = inception" => (any, any),
-        "expiration = inception - 1" => (any, any - 1),
-        "expiration 0, inception 2^32 - 1" => (u32::MAX, 0),
-        _ => (0, 0),
+        _ => (any, any.wrapping_sub(1)),
     };
 }
 

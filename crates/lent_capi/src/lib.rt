@@ -1,0 +1,132 @@
+// The public calls on a lent table, for C and Rust to link: numbers and lent slices alone. Each takes every value of every argument, writes its answer in six
+// words (number, length, TSIG error, skew, pair, serial) and returns the number. The table lies in 1091 words and 8192 octets (store/specs/Layout.antt); other
+// lengths, and words and octets that hold no table, are TABLE (1). TABLE changes nothing of what is lent; every other refusal sets at most the clock.
+use model::Answer;
+ghost use mathlib.Core.Path.{_≡_};
+ghost use Prim.Native.Nat.{_-_};
+ghost use lib.ListN.{length};
+ghost use Rattle.model.specs.Paper.Tables.{namesOf};
+ghost use Rattle.model.specs.Paper.Calls.{enrolOn, issueOn, revokeOn, lookOn, messageOn, octetsOwner};
+ghost use Rattle.store.specs.Layout.{tableOf};
+ghost use Rattle.lent_outcomes.specs.Ends.{Own};
+ghost use Rattle.lent_capi.specs.Told.{twosComplement, Told, Lent, NewLent, MessageLent};
+
+// ── Answers ─────────────────────────────────────────────────────────────────────────────────────────────────────────
+
+// In two's complement.
+fn skew_word(skew: i64) -> u64
+    ensures { λ r. ⌜ r ≡ twosComplement skew ⌝ }
+{
+    if 0 <= skew {
+        return skew as u64;
+    }
+    0xffff_ffff_ffff_ffff - (-1 - skew) as u64
+}
+
+fn tell(answer: &mut [u64; 6], a: Answer) -> u64
+    ensures { λ r. ⌜ Told a (now (answer .exit)) r ⌝ }
+{
+    let skew = skew_word(a.skew);
+    *answer = [a.number, a.length, a.error, skew, a.pair, a.serial];
+    a.number
+}
+
+// ── The calls ───────────────────────────────────────────────────────────────────────────────────────────────────────
+
+// New table, whatever was lent. Refused, in this order, with TABLE (1), TIME (2).
+#[no_mangle]
+pub extern "C" fn luffcringle_new_table(
+    words: &mut [u64],
+    suffixes: &[u8],
+    time: u64,
+    answer: &mut [u64; 6],
+) -> u64
+    ensures { λ r. ⌜ NewLent time (now (words .entry)) (now (suffixes .entry)) (now (words .exit)) (now (answer .exit)) r ⌝ }
+{
+    let a = lent_operator::new_table(words, suffixes, time);
+    tell(answer, a)
+}
+
+// Enrol. Refused, in this order, with TABLE (1), TIME (2), CLOCK (3), NAME (12), TERM (13), TWIN (14), FULL (15).
+#[no_mangle]
+pub extern "C" fn luffcringle_enrol(
+    words: &mut [u64],
+    suffixes: &mut [u8],
+    time: u64,
+    suffix: &[u8],
+    lifetime: u64,
+    fresh: u64,
+    algorithm: u64,
+    answer: &mut [u64; 6],
+) -> u64
+    ensures { λ r. ⌜ Lent (λ t. enrolOn t time (now (suffix .entry)) lifetime fresh algorithm) (now (words .entry)) (now (suffixes .entry)) (now (words .exit)) (now (suffixes .exit)) (now (answer .exit)) r ⌝ }
+{
+    let a = lent_operator::enrol(words, suffixes, time, suffix, lifetime, fresh, algorithm);
+    tell(answer, a)
+}
+
+// Issue. Refused, in this order, with TABLE (1), TIME (2), CLOCK (3), NOPAIR (9), SPENT (11), TERM (13).
+#[no_mangle]
+pub extern "C" fn luffcringle_issue(
+    words: &mut [u64],
+    suffixes: &[u8],
+    time: u64,
+    pair: u64,
+    algorithm: u64,
+    answer: &mut [u64; 6],
+) -> u64
+    ensures { λ r. ⌜ Lent (λ t. issueOn t time pair algorithm) (now (words .entry)) (now (suffixes .entry)) (now (words .exit)) (now (suffixes .entry)) (now (answer .exit)) r × Own (pair - 1) (now (words .entry)) (now (words .exit)) ⌝ }
+{
+    let a = lent_operator::issue(words, suffixes, time, pair, algorithm);
+    tell(answer, a)
+}
+
+// Revoke early. Refused, in this order, with TABLE (1), TIME (2), CLOCK (3), NOPAIR (9), NOKEY (10).
+#[no_mangle]
+pub extern "C" fn luffcringle_revoke(
+    words: &mut [u64],
+    suffixes: &[u8],
+    time: u64,
+    pair: u64,
+    answer: &mut [u64; 6],
+) -> u64
+    ensures { λ r. ⌜ Lent (λ t. revokeOn t time pair) (now (words .entry)) (now (suffixes .entry)) (now (words .exit)) (now (suffixes .entry)) (now (answer .exit)) r × Own (pair - 1) (now (words .entry)) (now (words .exit)) ⌝ }
+{
+    let a = lent_operator::revoke(words, suffixes, time, pair);
+    tell(answer, a)
+}
+
+// Look. Refused, in this order, with TABLE (1), SIZE (4), FORMAT (6), NOTQUERY (7).
+#[no_mangle]
+pub extern "C" fn luffcringle_look(
+    words: &[u64],
+    suffixes: &[u8],
+    message: &[u8],
+    answer: &mut [u64; 6],
+) -> u64
+    ensures { λ r. ⌜ Told (lookOn (tableOf (now (words .entry)) (now (suffixes .entry))) (now (message .entry)) .outcome .answer) (now (answer .exit)) r ⌝ }
+{
+    let a = lent_looking::look(words, suffixes, message);
+    tell(answer, a)
+}
+
+// Message. Refused, in this order, with TABLE (1), TIME (2), CLOCK (3), SIZE (4), OFFER (5), FORMAT (6), NOTQUERY (7), ROOM (8). The reply fills the first octets
+// of its buffer, as many as the answer says.
+#[no_mangle]
+pub extern "C" fn luffcringle_message<'a>(
+    words: &mut [u64],
+    suffixes: &[u8],
+    time: u64,
+    good: bool,
+    message: &'a [u8],
+    offer: &'a [u8],
+    reply: &mut [u8],
+    answer: &mut [u64; 6],
+) -> u64
+    ensures { λ r. ⌜ MessageLent (λ t. messageOn t time good (now (offer .entry)) (length (now (reply .entry))) (now (message .entry)))
+        (octetsOwner (namesOf (tableOf (now (words .entry)) (now (suffixes .entry)))) (now (message .entry)))
+        (now (words .entry)) (now (suffixes .entry)) (now (words .exit)) (now (reply .entry)) (now (reply .exit)) (now (answer .exit)) r ⌝ }
+{
+    let a = lent_server::message(words, suffixes, time, good, message, offer, reply);
+    tell(answer, a)
+}

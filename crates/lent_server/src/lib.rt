@@ -1,0 +1,111 @@
+// Message, the call on a lent table that judges a message and writes the reply (document 01, "The desk's business"): gate, read, find, step, store. Every value of
+// every argument is accepted, lent slices of any length included; the call ends with an answer or a refusal of its list. The contract is an equation with the
+// crate model's Calls, on the table that the lent words and octets show.
+use contents::Reading;
+use judging::Who;
+use model::Answer;
+use searching::Found;
+use step::Step;
+use tsig::Signer;
+ghost use mathlib.Core.Path.{_≡_};
+ghost use mathlib.Core.Bool.{true};
+ghost use Prim.Native.Nat.{_<_};
+ghost use lib.ListN.{length};
+ghost use Rattle.model.specs.Paper.Tables.{namesOf};
+ghost use Rattle.model.specs.Paper.Calls.{message as messageCall, octetsOwner, served, messageOn};
+ghost use Rattle.contents.specs.Contents.{ReadAs};
+ghost use Rattle.store.specs.Layout.{layoutRule, tableOf};
+ghost use Rattle.searching.specs.Search.{foundRow};
+ghost use Rattle.lent_outcomes.specs.Gate.{Open};
+ghost use Rattle.lent_server.specs.Serve.{Answered, AnsweredRest, RowKept};
+
+// The row of the pair that a message belongs to, by what was read of it: the one whose suffix follows the first label of the TSIG's name.
+fn row_read(words: &[u64], suffixes: &[u8], m: &[u8], reading: Reading) -> Found
+    requires { ⌜ (layoutRule (now words) (now suffixes) ≡ true) × ReadAs (now m) reading ⌝ }
+    ensures { λ r. ⌜ octetsOwner (namesOf (tableOf (now (words .entry)) (now (suffixes .entry)))) (now (m .entry)) ≡ foundRow r ⌝ }
+{
+    match reading {
+        Reading::Size => Found::Missing(0),
+        Reading::Broken { place: _ } => Found::Missing(0),
+        Reading::Whole(c) => {
+            let signer = c.signer;
+            match signer {
+                Signer::Nobody => Found::Missing(0),
+                Signer::Ill => Found::Missing(0),
+                Signer::Key { place, fields: _ } => locating::find_after(words, suffixes, m, place),
+            }
+        }
+    }
+}
+
+// Stores the pair of a row as a step left it, unless the step was refused.
+fn keep_row(words: &mut [u64], suffixes: &[u8], row: usize, s: Step) -> Answer
+    requires { ⌜ (layoutRule (now words) (now suffixes) ≡ true) × (row < length (tableOf (now words) (now suffixes) .rows)) ⌝ }
+    ensures { λ r. ⌜ RowKept row s (now (words .entry)) (now (suffixes .entry)) (now (words .exit)) r ⌝ }
+{
+    let a = s.answer;
+    if a.number != 0 {
+        return a;
+    }
+    let p = s.pair;
+    lent_outcomes::settle(words, suffixes, row, p, a.serial);
+    a
+}
+
+// A message call that passed TABLE, TIME and CLOCK.
+fn message_passed<'a>(
+    words: &mut [u64],
+    suffixes: &[u8],
+    time: u64,
+    good: bool,
+    m: &'a [u8],
+    offer: &'a [u8],
+    reply: &mut [u8],
+) -> Answer
+    requires { ⌜ Open (now words) (now suffixes) time ⌝ }
+    ensures { λ r. ⌜ AnsweredRest (λ t. served t (messageCall time good (now (offer .entry)) (length (now (reply .entry))) (now (m .entry))))
+        (octetsOwner (namesOf (tableOf (now (words .entry)) (now (suffixes .entry)))) (now (m .entry)))
+        (now (words .entry)) (now (suffixes .entry)) (now (words .exit)) (now (reply .entry)) (now (reply .exit)) r ⌝ }
+{
+    let reading = contents::read(m);
+    match row_read(words, suffixes, m, reading) {
+        Found::Row(row) => {
+            let pair = lent_outcomes::pair_of(words, suffixes, row);
+            let suffix = lent_outcomes::suffix_of(words, suffixes, row);
+            let who = Who::Pair {
+                number: row as u64 + 1,
+                pair,
+            };
+            let s = step::message_step(m, reading, who, suffix, time, good, offer, reply);
+            keep_row(words, suffixes, row, s)
+        }
+        Found::Missing(_) => {
+            let none = &m[..0];
+            let s = step::message_step(m, reading, Who::Nobody, none, time, good, offer, reply);
+            s.answer
+        }
+    }
+}
+
+// Message: judges a message, of which the MAC's verdict, the time and the offered key data are given, changes the pair that it belongs to as judging
+// decides, and writes the reply into the first octets of `reply`. Returns the reply's length, the TSIG error, the skew, and the pair and the serial
+// of the key that signed. Refused, in this order, with TABLE (1), TIME (2), CLOCK (3), SIZE (4), OFFER (5), FORMAT (6), NOTQUERY (7), ROOM (8).
+pub fn message<'a>(
+    words: &mut [u64],
+    suffixes: &[u8],
+    time: u64,
+    good: bool,
+    message: &'a [u8],
+    offer: &'a [u8],
+    reply: &mut [u8],
+) -> Answer
+    ensures { λ r. ⌜ Answered (λ t. messageOn t time good (now (offer .entry)) (length (now (reply .entry))) (now (message .entry)))
+        (octetsOwner (namesOf (tableOf (now (words .entry)) (now (suffixes .entry)))) (now (message .entry)))
+        (now (words .entry)) (now (suffixes .entry)) (now (words .exit)) (now (reply .entry)) (now (reply .exit)) r ⌝ }
+{
+    let n = lent_outcomes::enter(words, suffixes, time);
+    if n != 0 {
+        return lent_outcomes::refused(n);
+    }
+    message_passed(words, suffixes, time, good, message, offer, reply)
+}

@@ -1,0 +1,117 @@
+-- The promises are kept. Assumes nothing.
+use mathlib.Core.Path.{_≡_, refl, sym, ap, _∙_}
+use mathlib.Core.Logic.{inl}
+use mathlib.Core.List.{List, [], _∷_}
+use Prim.Native.Nat.{ℕ}
+use native.Mathlib.Omega.{arith}
+use Rattle.model.specs.declared.Algorithm.the-variants.{Sha256}
+use Rattle.model.specs.declared.Keys.{Keys}
+use Rattle.model.specs.declared.Keys.the-variants.{Empty, Adopted, Renewing}
+use Rattle.model.specs.Names.{keyName}
+use Rattle.model.specs.Paper.Tables.{Table, pairAt}
+use Rattle.model.specs.Paper.Calls.{Outcome, Call, issue, revoke}
+use Rattle.model.specs.Paper.Runs.{call, final, log, NeverBack, frameOf, ownLog, own}
+use Rattle.model.proofs.Paper.Running.{after}
+use Rattle.model.proofs.Requests.{suffix, ordinary}
+use Rattle.model.proofs.Paper.Day.{opening, first as first-key, day}
+use Rattle.paper_guarantees.specs.Freshness.{after as run}
+use Rattle.paper_guarantees.specs.Gone.{Goes}
+use Rattle.paper_guarantees.specs.Isolation.{AtAnyTimes, InAnyOrder}
+use Rattle.paper_guarantees.specs.Sample.{table, calls}
+use Rattle.paper_guarantees.specs.Promises.{numbers, Promises}
+use Rattle.paper_guarantees.proofs.Orders.{never-back, swapped}
+use Rattle.paper_guarantees.proofs.Refusals.{demand1}
+use Rattle.paper_guarantees.proofs.Freshness.{last-rules, demand2}
+use Rattle.paper_guarantees.proofs.Gone.{signed-with, demand8}
+use Rattle.paper_guarantees.proofs.Runs.{demand3}
+
+times : NeverBack calls
+unfolding calls after
+times = never-back calls refl
+
+-- ── Times that go back ──────────────────────────────────────────────────────────────────────────────────────────────
+
+-- Pair 1 is issued a key at 1300, and then pair 2 is revoked at 1200: CLOCK. Alone it is done.
+abbrev back : List Call
+back = issue 1300 1 256 ∷ revoke 1200 2 ∷ []
+
+abbrev first : List ℕ → ℕ
+first [] = 0
+first (n ∷ ns) = n
+
+refused-there : first (numbers (ownLog (frameOf table) 1 (log table back))) ≡ 3
+unfolding table after
+refused-there = refl
+
+done-alone : first (numbers (log table (own (frameOf table) 1 back))) ≡ 0
+unfolding table after
+done-alone = refl
+
+times-needed : ¬ AtAnyTimes
+times-needed claim =
+    let e : _≡_ {A = ℕ} 3 0 = sym refused-there ∙ ap (λ (l : List (Call × Outcome)). first (numbers l)) (claim table back .log-alone 1) ∙ done-alone in
+    absurd (omega arith)
+
+-- ── A pair's calls in another order ─────────────────────────────────────────────────────────────────────────────────
+
+-- Pair 1's key is revoked and then replaced at 1200, or replaced and then revoked: its partial time is 1600 or 1200.
+abbrev partialOf : Keys → ℕ
+partialOf Empty = 0
+partialOf (Adopted a) = a .partial
+partialOf (Renewing a w) = a .partial
+
+abbrev revokes : Call
+revokes = revoke 1200 1
+
+abbrev issues : Call
+issues = issue 1200 1 256
+
+first-order : partialOf (pairAt (final table (revokes ∷ issues ∷ [])) 0 .keys) ≡ 1600
+unfolding table after
+first-order = refl
+
+other-order : partialOf (pairAt (final table (issues ∷ revokes ∷ [])) 0 .keys) ≡ 1200
+unfolding table after
+other-order = refl
+
+same-time : NeverBack (revokes ∷ issues ∷ [])
+unfolding after
+same-time = never-back (revokes ∷ issues ∷ []) refl
+
+same-time-too : NeverBack (issues ∷ revokes ∷ [])
+unfolding after
+same-time-too = never-back (issues ∷ revokes ∷ []) refl
+
+order-needed : ¬ InAnyOrder
+order-needed claim =
+    let e : _≡_ {A = ℕ} 1600 1200 =
+    sym first-order
+    ∙ ap (λ (t : Table). partialOf (pairAt t 0 .keys)) (claim table (revokes ∷ issues ∷ []) (issues ∷ revokes ∷ []) same-time same-time-too (swapped revokes issues []))
+    ∙ other-order
+    in
+    absurd (omega arith)
+
+-- ── A key that goes ─────────────────────────────────────────────────────────────────────────────────────────────────
+
+key-goes : Goes (run 1000 opening) (call (issue 1200 1 256)) suffix first-key
+unfolding opening after
+key-goes = demand8 .ways (run 1000 opening) 0 first-key (last-rules 1000 opening) .replaced 1200 1 256 refl refl refl (inl refl)
+
+-- ── The whole ───────────────────────────────────────────────────────────────────────────────────────────────────────
+
+pub promises : Promises
+unfolding table calls after
+promises = record {
+  refusals = demand1;
+  names = demand2;
+  gone = demand8;
+  isolation = demand3;
+  day = day;
+  sample-times = times;
+  sample-numbers = refl;
+  sample-owners = refl;
+  sample-goes = key-goes;
+  sample-signed = signed-with (ordinary 1 1250) (keyName 1 suffix) Sha256 refl;
+  needs-times = times-needed;
+  needs-order = order-needed;
+}

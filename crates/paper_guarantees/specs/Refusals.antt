@@ -1,0 +1,67 @@
+-- Demand 1: each call ends with an answer or a refusal from the numbered list; a refusal writes no octet of the reply and changes no pair, and the clock
+-- moves exactly when the call passed TABLE, TIME and CLOCK. Assumes nothing.
+use mathlib.Core.Path.{_≡_}
+use mathlib.Core.Bool.{Bool, true, false, _||_}
+use mathlib.Core.Option.{Option, none, some}
+use mathlib.Core.List.{List, [], _∷_}
+use Prim.Native.Nat.{ℕ}
+use lib.Dec.{eqb}
+use lib.ListN.{length}
+use Rattle.model.specs.Paper.Tables.{Table, withClock}
+use Rattle.model.specs.Paper.Calls.{DONE, TABLE, TIME, CLOCK, SIZE, OFFER, FORMAT, NOTQUERY, ROOM, NOPAIR, NOKEY, SPENT, NAME, TERM, TWIN, FULL, done, unchanged, gate, emptyTable, newTable, timeFits, Call, issue, revoke, look, message, timeOf, messageOn, bufferAfter}
+use Rattle.model.specs.Paper.Runs.{Operation, enrol, call, operated}
+
+abbrev pub isOne : ℕ → List ℕ → Bool
+isOne n [] = false
+isOne n (m ∷ ms) = eqb n m || isOne n ms
+
+-- 01, "Numbers a caller sees": "The order is 1, 2, 3, then for a message 4 to 8, for issue 9, 11, 13, for revoke 9, 10, for enrol 12 to 15. Look gives
+-- 1, 4, 6 and 7 only."
+unfoldable pub ownRefusals : Call → List ℕ
+ownRefusals (issue time number algorithm) = NOPAIR ∷ SPENT ∷ TERM ∷ []
+ownRefusals (revoke time number) = NOPAIR ∷ NOKEY ∷ []
+ownRefusals (look octets) = SIZE ∷ FORMAT ∷ NOTQUERY ∷ []
+ownRefusals (message time good offer room octets) = SIZE ∷ OFFER ∷ FORMAT ∷ NOTQUERY ∷ ROOM ∷ []
+
+abbrev pub firstRefusals : Option ℕ → List ℕ → List ℕ
+firstRefusals none own = TABLE ∷ own
+firstRefusals (some time) own = TABLE ∷ TIME ∷ CLOCK ∷ own
+
+unfoldable pub refusalsOf : Operation → List ℕ
+refusalsOf (enrol time suffix lifetime fresh algorithm) = firstRefusals (some time) (NAME ∷ TERM ∷ TWIN ∷ FULL ∷ [])
+refusalsOf (call c) = firstRefusals (timeOf c) (ownRefusals c)
+
+unfoldable pub operationTime : Operation → Option ℕ
+operationTime (enrol time suffix lifetime fresh algorithm) = some time
+operationTime (call c) = timeOf c
+
+-- The clock after a call: its time, if it has one and nothing refused it at the gate.
+abbrev pub movedBy : Option ℕ → Option ℕ → ℕ → ℕ
+movedBy (some refused) time clock = clock
+movedBy none none clock = clock
+movedBy none (some time) clock = time
+
+-- Enrolment, issue, revoke early, look or message, on any table.
+pub record Safe (t : Table) (o : Operation) : Type 0 where
+  -- it ends with DONE or with a number of its own list
+  pub listed : isOne (operated t o .outcome .answer .number) (DONE ∷ refusalsOf o) ≡ true
+  -- done or refused, the clock is its time exactly when it passed the first three checks
+  pub clock-moves : operated t o .table .clock ≡ movedBy (gate t (operationTime o)) (operationTime o) (t .clock)
+  -- where it is refused, the clock is all that may have moved, and its number is all that it returns: no reply, no other number
+  pub refused-clean :
+      ¬ (operated t o .outcome .answer .number ≡ DONE)
+      → operated t o ≡ unchanged (withClock t (operated t o .table .clock)) (operated t o .outcome .answer .number)
+
+pub record Demand1 : Type 0 where
+  pub every-call : (t : Table) (o : Operation) → Safe t o
+  -- a new table is refused only with TIME, and has no pairs
+  pub new-done : (time : ℕ) → timeFits time ≡ true → newTable time ≡ record { table = emptyTable time; outcome = done 0 0 }
+  pub new-refused : (time : ℕ) → timeFits time ≡ false → newTable time ≡ unchanged (emptyTable 0) TIME
+  -- the lent buffer keeps its length, and a refusal leaves every octet of it
+  pub buffer-length :
+      (t : Table) (time : ℕ) (good : Bool) (offer octets buffer : List ℕ)
+      → length (bufferAfter (messageOn t time good offer (length buffer) octets) buffer) ≡ length buffer
+  pub buffer-untouched :
+      (t : Table) (time : ℕ) (good : Bool) (offer octets buffer : List ℕ)
+      → ¬ (messageOn t time good offer (length buffer) octets .outcome .answer .number ≡ DONE)
+      → bufferAfter (messageOn t time good offer (length buffer) octets) buffer ≡ buffer

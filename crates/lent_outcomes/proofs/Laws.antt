@@ -5,18 +5,19 @@ use mathlib.Core.Bool.{Bool, true, false}
 use mathlib.Core.Option.{Option, none, some}
 use mathlib.Core.List.{List, [], _∷_}
 use native.Mathlib.Omega.{arith}
-use lib.ListN.{length, getD, set, drop}
+use lib.ListN.{length, getD, set, drop, length-take}
 use lib.Seq.{getD-drop}
 use borrow.Author.Tests.{lt-ltb, le-ltb, le-leb, lt-leb}
 use Rattle.model.specs.declared.Answer.{Answer}
 use Rattle.model.specs.declared.Pair.{Pair}
+use Rattle.model.specs.Octets.{part}
 use Rattle.model.specs.Paper.Tables.{Row, Table, rowAt, suffixAt, pairAt, withClock, pairRule, tableRules}
 use Rattle.model.specs.Paper.Calls.{DONE, TABLE, TIME, CLOCK, Result, refusal, done, unchanged, timeFits, timeGoesOn, gate, clockAt, Call, timeOf, served, called}
 use Rattle.model.proofs.Tests.{differs}
 use Rattle.model.proofs.Paper.Rows.{tests, every-member, at-member}
 use Rattle.model.proofs.Paper.CallLaws.{refused-first, passes-first}
 use Rattle.store.proofs.Codec.{kept}
-use Rattle.store.specs.Layout.{clockOf, countOf, placeOf, pairIn, suffixIn, laidTable, layoutRule, tableOf}
+use Rattle.store.specs.Layout.{clockOf, countOf, placeOf, lengthIn, pairIn, suffixIn, laidTable, layoutRule, tableOf}
 use Rattle.store.specs.Stored.{ClockSet, PairStored}
 use Rattle.store.proofs.Laid.{laid, shown as shown-laid}
 use Rattle.store.proofs.Storing.{row-of, rows-length}
@@ -25,6 +26,10 @@ use Rattle.lent_outcomes.specs.Gate.{refusalOf, First, Open, Entered}
 use Rattle.lent_outcomes.specs.Ends.{shown, Served, Own, Rest, Settled}
 
 -- ── A store, as it is shown ─────────────────────────────────────────────────────────────────────────────────────────
+
+laid-short : (w s : List ℕ) (q : ℕ) → length (suffixIn w s q) ≤ lengthIn w q
+unfolding suffixIn part
+laid-short w s q = simp length-take (omega arith)
 
 module _ (w s : List ℕ) where
   pub rules-layout : tableRules (tableOf w s) ≡ true → layoutRule w s ≡ true
@@ -62,6 +67,9 @@ module _ (w s : List ℕ) where
       pub shown-suffix : suffixAt (tableOf w s) row ≡ suffixIn w s (placeOf w row)
       unfolding suffixAt
       shown-suffix = ap (λ (t : Table). suffixAt t row) (shown-laid w s ok) ∙ ap (λ (r : Row). r .suffix) (row-of w s row row-low)
+
+      pub suffix-short : length (suffixAt (tableOf w s) row) ≤ 128
+      suffix-short = rw shown-suffix (omega (arith, laid w s ok .at (placeOf w row) (laid w s ok .at row row-low .lands) .short, laid-short w s (placeOf w row)))
 
 -- ── The gate ────────────────────────────────────────────────────────────────────────────────────────────────────────
 

@@ -5,10 +5,10 @@ use mathlib.Core.Bool.{Bool, true, false, cond, not}
 use mathlib.Core.Option.{Option, none, some, Option·none-ne-some}
 use mathlib.Core.List.{List}
 use native.Mathlib.Omega.{arith}
-use lib.ListN.{length, drop, length-map, length-take}
+use lib.ListN.{length, drop, length-map}
 use Rattle.model.specs.declared.Answer.{Answer}
 use Rattle.model.specs.declared.Pair.{Pair}
-use Rattle.model.specs.Octets.{Reading, stops, reads, part}
+use Rattle.model.specs.Octets.{Reading, stops, reads}
 use Rattle.model.specs.Names.{afterLabel}
 use Rattle.model.specs.Messages.{Message, readMessage}
 use Rattle.model.specs.Tsig.{Signature, unsigned, misplaced, signed, signature}
@@ -28,13 +28,13 @@ use Rattle.contents.specs.Contents.{ContentsRead, ReadAs}
 use Rattle.judging.specs.declared.Who.the-variants.{Pair as Owner}
 use Rattle.step.specs.declared.Step.{Step}
 use Rattle.step.specs.Steps.{Ruled, Ready, Steps}
-use Rattle.store.specs.Layout.{placeOf, lengthIn, suffixIn, layoutRule, tableOf}
+use Rattle.store.specs.Layout.{layoutRule, tableOf}
 use Rattle.store.proofs.Laid.{laid}
 use Rattle.searching.specs.declared.Found.{Found}
 use Rattle.searching.specs.Search.{foundRow}
 use Rattle.lent_outcomes.specs.Gate.{refusalOf, Open, Entered}
 use Rattle.lent_outcomes.specs.Ends.{Own, Settled}
-use Rattle.lent_outcomes.proofs.Laws.{row-low, shown-suffix, own-none, own-settled, own-whole, call-refused, call-passed}
+use Rattle.lent_outcomes.proofs.Laws.{row-low, suffix-short, own-none, own-settled, own-whole, call-refused, call-passed}
 use Rattle.lent_server.specs.Serve.{OwnOf, Answered, AnsweredRest, RowKept}
 
 -- ── Whose message ───────────────────────────────────────────────────────────────────────────────────────────────────
@@ -82,10 +82,6 @@ module _ (n : List (List ℕ)) (i : ℕ) where
 
 -- ── A row that was found ────────────────────────────────────────────────────────────────────────────────────────────
 
-laid-short : (w s : List ℕ) (q : ℕ) → length (suffixIn w s q) ≤ lengthIn w q
-unfolding suffixIn part
-laid-short w s q = simp length-take (omega arith)
-
 module _ (w s m : List ℕ) (i : ℕ) (owner : octetsOwner (namesOf (tableOf w s)) m ≡ some i) where
   pub row-in : i < length (tableOf w s .rows)
   unfolding namesOf
@@ -97,15 +93,9 @@ module _ (w s m : List ℕ) (i : ℕ) (owner : octetsOwner (namesOf (tableOf w s
   pub row-few : layoutRule w s ≡ true → i < 64
   row-few ok = omega (arith, row-low w s ok i row-in, laid w s ok .few)
 
-  short : (ok : layoutRule w s ≡ true) → length (suffixAt (tableOf w s) i) ≤ 128
-  short ok =
-      let l = laid w s ok in
-      let q = l .at i (row-low w s ok i row-in) .lands in
-      rw (shown-suffix w s ok i row-in) (omega (arith, l .at (placeOf w i) q .short, laid-short w s (placeOf w i)))
-
   pub row-ready : {p : Pair} {y : List ℕ} → p ≡ pairAt (tableOf w s) i → y ≡ suffixAt (tableOf w s) i → (time : ℕ) → Open w s time → Ready (Owner (i + 1) p) y time
   row-ready is-p is-y time o =
-      record { ruled = record { tested = o .tested; rule = rw is-p (o .rule i row-in) }; short = rw is-y (short (o .layout)); on-time = o .fits }
+      record { ruled = record { tested = o .tested; rule = rw is-p (o .rule i row-in) }; short = rw is-y (suffix-short w s (o .layout) i row-in); on-time = o .fits }
 
 pub row-held : (t : Table) (i : ℕ) {p : Pair} {y : List ℕ} → p ≡ pairAt t i → y ≡ suffixAt t i → holder (i + 1) y p ≡ holderBy t (some i)
 unfolding holderAt

@@ -17,7 +17,7 @@ pub enum Listed {
     Broken,
 }
 
-fn clock_line(buf: &mut [u8], clock: u64) -> usize
+pub fn clock_line(buf: &mut [u8], clock: u64) -> usize
     requires { ⌜ 27 ≤ length (now buf) ⌝ }
     ensures { λ r. ⌜ (r ≤ 27) × Wrote (clockLine clock) 0 (now (buf .entry)) (now (buf .exit)) r ⌝ }
 {
@@ -74,7 +74,7 @@ fn key_lines(buf: &mut [u8], at: usize, keys: Keys) -> usize
 }
 
 // A pair's line and those of its keys.
-fn row_lines(buf: &mut [u8], at: usize, suffix: &[u8], p: Pair) -> usize
+pub fn row_lines(buf: &mut [u8], at: usize, suffix: &[u8], p: Pair) -> usize
     requires { ⌜ (at + 541 ≤ length (now buf)) × (length (now suffix) ≤ 128) ⌝ }
     ensures { λ r. ⌜ (r ≤ at + 541) × Wrote (pairLine (now (suffix .entry)) p ++ keyLines (p .keys)) at (now (buf .entry)) (now (buf .exit)) r ⌝ }
 {

@@ -14,7 +14,7 @@ extern "C" {
 /* What a call returns, and the first word of its answer (document 01, "Numbers a caller sees"). */
 enum luffcringle_number {
     LUFFCRINGLE_DONE = 0,      /* work done */
-    LUFFCRINGLE_TABLE = 1,     /* the image holds no table, or one that breaks a table rule */
+    LUFFCRINGLE_TABLE = 1,     /* what was lent holds no table, or one that breaks a table rule */
     LUFFCRINGLE_TIME = 2,      /* time is 2^48 - 2^31 or more */
     LUFFCRINGLE_CLOCK = 3,     /* time is before the table's clock */
     LUFFCRINGLE_SIZE = 4,      /* message shorter than 12 or longer than 65535 octets */
@@ -31,26 +31,36 @@ enum luffcringle_number {
     LUFFCRINGLE_FULL = 15      /* 64 pairs enrolled */
 };
 
-/* The image: the table in 2050 words, which the caller keeps and lends to each call.
+/* The table: 1091 words and 8192 octets, which the caller keeps and lends to each call. A call reads and changes it where it lies.
  *
  *   word          holds
  *   0             the clock
  *   1             the count of pairs
- *   2 + 32 i ..   row i (pair number i + 1), for each i below 64:
- *     + 0         the length of the suffix
- *     + 1         the lifetime
- *     + 2         the fresh period
- *     + 3         the next serial
- *     + 4         the keys: 0 none, 1 an adopted key, 2 an adopted and a waiting key
- *     + 5 .. 9    the adopted key: serial, algorithm (256, 384 or 512), inception, partial, expiry
- *     + 10 .. 14  the waiting key, likewise
- *     + 15        nothing
- *     + 16 .. 31  the 128 octets of the suffix, eight to a word, the first in the low bits: in order, on a little-endian machine
+ *   2             nothing yet
+ *   3 + n         the place of pair number n + 1
+ *   67 + 16 q ..  at the place q, for each q below the count:
+ *     + 0         the pair that lies here: its number less 1
+ *     + 1         the length of its suffix
+ *     + 2 .. 4    its lifetime, its fresh period and its next serial
+ *     + 5         its keys: 0 none, 1 an adopted key, 2 an adopted and a waiting key
+ *     + 6 .. 10   the adopted key: serial, algorithm (256, 384 or 512), inception, partial, expiry
+ *     + 11 .. 15  the waiting key, likewise
  *
- * The words of a key that a row does not have, and word 15, are read as anything and written as 0. Octets of a suffix past its length, and rows past
- * the count, mean nothing and are kept; but every row has a known tag, and a key in use a known algorithm, past the count too. An image may be stored
- * and lent again later; one that holds no table, or one that breaks a table rule, is refused with TABLE. */
-#define LUFFCRINGLE_IMAGE_WORDS 2050
+ * Its suffix lies in the octets from 128 q on.
+ *
+ * The layout rule: the count is at most 64; for each n below it, word 3 + n is a place below the count whose word + 0 is n; each suffix has 3 to 128
+ * octets and comes after that of the place before, octet by octet with A to Z as a to z; word + 5 is 0, 1 or 2; the keys that there are have a known
+ * algorithm. What breaks this rule holds no table and is refused with TABLE, and so is a table that breaks a table rule of document 01.
+ *
+ * Word 2, words 3 + n and places from the count on, the words of a key that there is not, and the octets after a suffix have no meaning: they may
+ * hold anything and change no answer. So two tables that list alike need not be equal word for word. A table may be stored as it is, its words in
+ * the machine's byte order, and lent again later. */
+#define LUFFCRINGLE_TABLE_WORDS 1091
+#define LUFFCRINGLE_TABLE_OCTETS 8192
+struct luffcringle_table {
+    uint64_t words[LUFFCRINGLE_TABLE_WORDS];
+    uint8_t suffixes[LUFFCRINGLE_TABLE_OCTETS];
+};
 
 /* The answer: six words, which every call writes. A refusal writes its number and 0 in all others. */
 #define LUFFCRINGLE_ANSWER_WORDS 6
@@ -65,37 +75,44 @@ enum luffcringle_answer {
 
 /* What every call keeps to:
  * - It is refused for the first reason that applies, in the order in which its refusals are listed.
- * - A refusal changes nothing but the image's clock (word 0), and that only where TABLE, TIME and CLOCK passed; the reply buffer keeps every octet.
- *   After every call, done or refused, the image holds exactly the table that the call left.
- * - image_words other than 2050 is TABLE.
- * - A call reads and writes only what it is lent, keeps nothing and allocates nothing. Two threads may call at the same time, but not on one image:
- *   a call may not write an image that another call reads or writes. Two looks may share one.
- * - Pointers: none is null, also where the length is 0; each leads to as many words or octets as its length says (answer: 6), aligned for its type;
- *   what is written (image, reply, answer) overlaps nothing else that is lent. That is the caller's to keep: no call can test it.
+ * - TABLE leaves every word and every octet of the table. So does every other refusal, but for the clock (word 0), which it sets where TABLE, TIME
+ *   and CLOCK passed. A refusal leaves every octet of the reply buffer.
+ * - An issue, a revoke or a message that is done changes the clock and the words + 2 .. 15 of its own pair, those without meaning included, and no
+ *   other word. A message's own pair is the one whose suffix follows the first label of its TSIG's name; it may have none. Enrol moves pairs to other
+ *   places; their numbers stay.
+ * - After every call, done or refused, what was lent holds exactly the table that the call left.
+ * - A call reads and writes only what it is lent, keeps nothing and allocates nothing. Two threads may call at the same time, but not on one table:
+ *   a call may not write a table that another call reads or writes. Two looks may share one.
+ * - Pointers: none is null, also where the length is 0; each leads to as many words or octets as its length says (words: 1091, suffixes: 8192,
+ *   answer: 6), aligned for its type; what is written (what is not const) overlaps nothing else that is lent. That is the caller's to keep: no call
+ *   can test it.
  * - Times are seconds since 1970. MACs, secrets and key data are the caller's. */
 
-/* New table: no pairs, its clock the time given; what the words held before does not matter. Refused with TABLE, TIME. A refusal leaves the image. */
-uint64_t luffcringle_new_table(uint64_t time, uint64_t *image, size_t image_words, uint64_t answer[LUFFCRINGLE_ANSWER_WORDS]);
+/* New table: no pairs, its clock the time given, whatever was lent. Refused with TIME, which leaves every word. */
+uint64_t luffcringle_new_table(uint64_t words[LUFFCRINGLE_TABLE_WORDS], const uint8_t suffixes[LUFFCRINGLE_TABLE_OCTETS], uint64_t time,
+                               uint64_t answer[LUFFCRINGLE_ANSWER_WORDS]);
 
 /* Enrol: adds a pair (suffix: an uncompressed wire name) with its first key, serial 1, and answers the pair's number and that serial. Refused with
  * TABLE, TIME, CLOCK, NAME, TERM, TWIN, FULL. */
-uint64_t luffcringle_enrol(uint64_t *image, size_t image_words, uint64_t time, const uint8_t *suffix, size_t suffix_length, uint64_t lifetime,
-                           uint64_t fresh, uint64_t algorithm, uint64_t answer[LUFFCRINGLE_ANSWER_WORDS]);
+uint64_t luffcringle_enrol(uint64_t words[LUFFCRINGLE_TABLE_WORDS], uint8_t suffixes[LUFFCRINGLE_TABLE_OCTETS], uint64_t time,
+                           const uint8_t *suffix, size_t suffix_length, uint64_t lifetime, uint64_t fresh, uint64_t algorithm,
+                           uint64_t answer[LUFFCRINGLE_ANSWER_WORDS]);
 
 /* Issue: a fresh adopted key with the next serial, in the place of what the pair had; answers the pair and the serial. Refused with TABLE, TIME,
  * CLOCK, NOPAIR, SPENT, TERM. */
-uint64_t luffcringle_issue(uint64_t *image, size_t image_words, uint64_t time, uint64_t pair, uint64_t algorithm,
-                           uint64_t answer[LUFFCRINGLE_ANSWER_WORDS]);
+uint64_t luffcringle_issue(uint64_t words[LUFFCRINGLE_TABLE_WORDS], const uint8_t suffixes[LUFFCRINGLE_TABLE_OCTETS], uint64_t time,
+                           uint64_t pair, uint64_t algorithm, uint64_t answer[LUFFCRINGLE_ANSWER_WORDS]);
 
 /* Revoke early: the partial time of the pair's adopted key becomes the earlier of itself and now; answers the pair and the key's serial. Refused with
  * TABLE, TIME, CLOCK, NOPAIR, NOKEY. */
-uint64_t luffcringle_revoke(uint64_t *image, size_t image_words, uint64_t time, uint64_t pair, uint64_t answer[LUFFCRINGLE_ANSWER_WORDS]);
+uint64_t luffcringle_revoke(uint64_t words[LUFFCRINGLE_TABLE_WORDS], const uint8_t suffixes[LUFFCRINGLE_TABLE_OCTETS], uint64_t time,
+                            uint64_t pair, uint64_t answer[LUFFCRINGLE_ANSWER_WORDS]);
 
 /* Look: the pair and the serial of the adopted key whose name and algorithm the message's TSIG gives, expired or not, else 0 and 0: so the caller
  * knows which secret verifies the MAC, before it calls luffcringle_message. Changes nothing, takes no time. Refused with TABLE, SIZE, FORMAT,
  * NOTQUERY. */
-uint64_t luffcringle_look(const uint64_t *image, size_t image_words, const uint8_t *message, size_t message_length,
-                          uint64_t answer[LUFFCRINGLE_ANSWER_WORDS]);
+uint64_t luffcringle_look(const uint64_t words[LUFFCRINGLE_TABLE_WORDS], const uint8_t suffixes[LUFFCRINGLE_TABLE_OCTETS], const uint8_t *message,
+                          size_t message_length, uint64_t answer[LUFFCRINGLE_ANSWER_WORDS]);
 
 /* Message: judges a message, changes the pair that it belongs to as judging decides, and writes the reply without its TSIG into the first octets of
  * `reply`. `good` is the verdict on the MAC (ignored where there is no TSIG), `offer` the key data for a renewal, 0 to 1024 octets. Answers the
@@ -114,9 +131,9 @@ uint64_t luffcringle_look(const uint64_t *image, size_t image_words, const uint8
  *   0       0       1, 5    before a key is known: none
  * The request's key is the answer's pair and serial, also where this very message deleted or replaced it: keep its secret until the reply is
  * signed. */
-uint64_t luffcringle_message(uint64_t *image, size_t image_words, uint64_t time, bool good, const uint8_t *message, size_t message_length,
-                             const uint8_t *offer, size_t offer_length, uint8_t *reply, size_t reply_room,
-                             uint64_t answer[LUFFCRINGLE_ANSWER_WORDS]);
+uint64_t luffcringle_message(uint64_t words[LUFFCRINGLE_TABLE_WORDS], const uint8_t suffixes[LUFFCRINGLE_TABLE_OCTETS], uint64_t time, bool good,
+                             const uint8_t *message, size_t message_length, const uint8_t *offer, size_t offer_length, uint8_t *reply,
+                             size_t reply_room, uint64_t answer[LUFFCRINGLE_ANSWER_WORDS]);
 
 #ifdef __cplusplus
 }

@@ -10,8 +10,9 @@
 
 enum { LONGEST_LINE = 200000, MOST_OCTETS = LONGEST_LINE / 2, MOST_ROOM = 65535, MOST_WORDS = 6 };
 
-/* Where the words of a row are (luffcringle.h). */
-enum { ROWS = 2, ROW_WORDS = 32, LIFETIME = 1, FRESH = 2, NEXT_SERIAL = 3, KEYS = 4, ADOPTED = 5, WAITING = 10, SUFFIX = 16 };
+/* Where the words of a table and of a row are, and how many octets a suffix has for itself (luffcringle.h). */
+enum { CLOCK = 0, COUNT = 1, MAP = 3, ROWS = 67, ROW_WORDS = 16, SUFFIX_OCTETS = 128 };
+enum { LENGTH = 1, LIFETIME = 2, FRESH = 3, NEXT_SERIAL = 4, KEYS = 5, ADOPTED = 6, WAITING = 11 };
 
 struct word {
     const char *text;
@@ -23,7 +24,7 @@ struct octets {
     size_t length;
 };
 
-static uint64_t image[LUFFCRINGLE_IMAGE_WORDS];
+static struct luffcringle_table table;
 static uint64_t answer[LUFFCRINGLE_ANSWER_WORDS];
 static uint8_t reply[MOST_ROOM];
 static struct octets suffix, message, offer;
@@ -125,15 +126,9 @@ static void print_key(const char *state, const uint64_t *key) {
     printf("key\t%s\t%" PRIu64 "\thmac-sha%" PRIu64 "\t%" PRIu64 "\t%" PRIu64 "\t%" PRIu64 "\n", state, key[0], key[1], key[2], key[3], key[4]);
 }
 
-/* Eight octets of a suffix to a word, the first in the low bits. */
-static void print_suffix(const uint64_t *words, uint64_t length) {
-    for (uint64_t i = 0; i < length; i++)
-        printf("%02x", (unsigned)(words[i / 8] >> (8 * (i % 8)) & 0xff));
-}
-
-static void print_pair(const uint64_t *row) {
+static void print_pair(const uint64_t *row, const uint8_t *octets) {
     printf("pair\t");
-    print_suffix(row + SUFFIX, row[0]);
+    print_hex(octets, (size_t)row[LENGTH]);
     printf("\t%" PRIu64 "\t%" PRIu64 "\t%" PRIu64 "\n", row[NEXT_SERIAL], row[LIFETIME], row[FRESH]);
     if (row[KEYS] >= 1)
         print_key("adopted", row + ADOPTED);
@@ -141,10 +136,13 @@ static void print_pair(const uint64_t *row) {
         print_key("waiting", row + WAITING);
 }
 
+/* In order of enrolment: the map has the place of each pair. */
 static void print_table(void) {
-    printf("clock\t%" PRIu64 "\n", image[0]);
-    for (uint64_t i = 0; i < image[1]; i++)
-        print_pair(image + ROWS + ROW_WORDS * i);
+    printf("clock\t%" PRIu64 "\n", table.words[CLOCK]);
+    for (uint64_t i = 0; i < table.words[COUNT]; i++) {
+        uint64_t place = table.words[MAP + i];
+        print_pair(table.words + ROWS + ROW_WORDS * place, table.suffixes + SUFFIX_OCTETS * place);
+    }
 }
 
 /* ---- The calls: false where the words do not read, and then nothing is called ---- */
@@ -153,7 +151,7 @@ static bool call_new(const struct word *w) {
     uint64_t time;
     if (!read_number(w[1], &time))
         return false;
-    luffcringle_new_table(time, image, LUFFCRINGLE_IMAGE_WORDS, answer);
+    luffcringle_new_table(table.words, table.suffixes, time, answer);
     return true;
 }
 
@@ -162,7 +160,7 @@ static bool call_enrol(const struct word *w) {
     if (!read_number(w[1], &time) || !read_octets(w[2], &suffix) || !read_number(w[3], &lifetime) || !read_number(w[4], &fresh) ||
         !read_number(w[5], &algorithm))
         return false;
-    luffcringle_enrol(image, LUFFCRINGLE_IMAGE_WORDS, time, suffix.octet, suffix.length, lifetime, fresh, algorithm, answer);
+    luffcringle_enrol(table.words, table.suffixes, time, suffix.octet, suffix.length, lifetime, fresh, algorithm, answer);
     return true;
 }
 
@@ -170,7 +168,7 @@ static bool call_issue(const struct word *w) {
     uint64_t time, pair, algorithm;
     if (!read_number(w[1], &time) || !read_number(w[2], &pair) || !read_number(w[3], &algorithm))
         return false;
-    luffcringle_issue(image, LUFFCRINGLE_IMAGE_WORDS, time, pair, algorithm, answer);
+    luffcringle_issue(table.words, table.suffixes, time, pair, algorithm, answer);
     return true;
 }
 
@@ -178,14 +176,14 @@ static bool call_revoke(const struct word *w) {
     uint64_t time, pair;
     if (!read_number(w[1], &time) || !read_number(w[2], &pair))
         return false;
-    luffcringle_revoke(image, LUFFCRINGLE_IMAGE_WORDS, time, pair, answer);
+    luffcringle_revoke(table.words, table.suffixes, time, pair, answer);
     return true;
 }
 
 static bool call_look(const struct word *w) {
     if (!read_octets(w[1], &message))
         return false;
-    luffcringle_look(image, LUFFCRINGLE_IMAGE_WORDS, message.octet, message.length, answer);
+    luffcringle_look(table.words, table.suffixes, message.octet, message.length, answer);
     return true;
 }
 
@@ -195,7 +193,7 @@ static bool call_message(const struct word *w) {
     if (!read_number(w[1], &time) || !read_verdict(w[2], &good) || !read_octets(w[3], &offer) || !read_number(w[4], &room) ||
         !read_octets(w[5], &message))
         return false;
-    luffcringle_message(image, LUFFCRINGLE_IMAGE_WORDS, time, good, message.octet, message.length, offer.octet, offer.length, reply,
+    luffcringle_message(table.words, table.suffixes, time, good, message.octet, message.length, offer.octet, offer.length, reply,
                         room < MOST_ROOM ? (size_t)room : MOST_ROOM, answer);
     return true;
 }
@@ -227,7 +225,7 @@ static bool run_line(const char *line, size_t length) {
 int main(void) {
     static char line[LONGEST_LINE];
     size_t length;
-    luffcringle_new_table(0, image, LUFFCRINGLE_IMAGE_WORDS, answer);
+    luffcringle_new_table(table.words, table.suffixes, 0, answer);
     for (uint64_t number = 1; read_line(line, &length); number++)
         if (length > LONGEST_LINE || !run_line(line, length))
             printf("bad line %" PRIu64 "\n", number);

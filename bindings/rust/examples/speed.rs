@@ -1,9 +1,8 @@
 //! Times of calls through the C interface against the second reader's library,
-//! on a table of 64 pairs, the two sides taking turns:
+//! the two sides taking turns; `measure/speed.sh` runs it.
 //!
-//!     cargo run --release --offline --example speed
-//!
-//! The calls are timed one by one, so that the state can be restored between
+//! Answers, replies and tables of both sides are compared before anything is
+//! timed. Calls are timed one by one, so that the table can be restored between
 //! them outside the timed part; the clock's own cost is in every figure and is
 //! said.
 
@@ -12,96 +11,196 @@ mod support;
 
 use luffcringle::{Answer, Refusal, Table};
 use std::hint::black_box;
+use std::path::Path;
+use std::process::Command;
 use std::time::Instant;
-use support::build::{name, record, Draft, A, IN, SOA};
-use support::{as_ours, row, table_of, KEYS};
+use support::build::{hex, name, record, Draft, Tsig, A, IN, SOA};
+use support::{as_ours, table_of};
 
-const ROUNDS: usize = 5_001;
-const WARM_UP: usize = 500;
+/// Turns of a short call; one that takes longer gets fewer.
+const MOST_TURNS: usize = 5_001;
+const LEAST_TURNS: usize = 21;
+/// What each side may take, in nanoseconds, before the turns are fewer.
+const ENOUGH: i64 = 1_000_000_000;
 const NOW: u64 = 1_000_000;
+const TERMS: (u64, u64) = (86_400, 43_200);
 const OFFER: [u8; 32] = [0x5e; 32];
 
-/// A table and a reply buffer on each side.
-struct Sides {
-    ours: Table,
-    theirs: second::Table,
-    our_reply: Vec<u8>,
-    their_reply: Vec<u8>,
-}
-
-impl Sides {
-    fn of(ours: &Table) -> Sides {
-        Sides {
-            ours: ours.clone(),
-            theirs: table_of(ours.image()),
-            our_reply: vec![0; 65_535],
-            their_reply: vec![0; 65_535],
-        }
-    }
-
-    fn our_message(&mut self, message: &[u8]) -> Result<Answer, Refusal> {
-        let reply = &mut self.our_reply;
-        self.ours.message(NOW, true, message, &OFFER, reply)
-    }
-
-    fn their_message(&mut self, message: &[u8]) -> Result<second::Done, second::Refusal> {
-        let reply = &mut self.their_reply;
-        second::message(&mut self.theirs, NOW, true, message, &OFFER, reply)
-    }
-
-    /// The same answer, reply and table; the answer is as `expected`.
-    fn compare(&mut self, message: &[u8], expected: fn(&Answer) -> bool) {
-        let ours = self.our_message(message).map_err(Refusal::number);
-        let theirs = as_ours(self.their_message(message));
-        assert_eq!(ours, theirs);
-        assert!(expected(&ours.expect("done")));
-        assert_eq!(self.our_reply, self.their_reply);
-        assert_eq!(table_of(self.ours.image()), self.theirs);
-    }
-}
-
-/// Offices' names, which decide what the comparison of suffixes costs. Both
-/// kinds are as long.
+/// A call that both sides make.
 #[derive(Clone, Copy)]
-enum Offices {
-    DifferEarly,
-    DifferLate,
+enum Call<'a> {
+    Message(&'a [u8]),
+    Look(&'a [u8]),
+    Enrol(&'a [u8]),
+    Issue(u64),
+    Revoke(u64),
 }
 
-impl Offices {
-    fn suffix(self, pair: usize) -> String {
+impl Call<'_> {
+    fn ours(self, table: &mut Table, reply: &mut [u8]) -> Result<Answer, Refusal> {
+        let time = NOW;
         match self {
-            Offices::DifferEarly => format!("{pair:02}-office.example."),
-            Offices::DifferLate => format!("office-{pair:02}.example."),
+            Call::Message(octets) => table.message(time, true, octets, &OFFER, reply),
+            Call::Look(octets) => table.look(octets),
+            Call::Enrol(suffix) => table.enrol(time, suffix, TERMS.0, TERMS.1, 256),
+            Call::Issue(pair) => table.issue(time, pair, 256),
+            Call::Revoke(pair) => table.revoke(time, pair),
         }
     }
 
-    /// The last pair's key, which takes the longest search.
+    fn theirs(
+        self,
+        table: &mut second::Table,
+        reply: &mut [u8],
+    ) -> Result<second::Done, second::Refusal> {
+        let time = NOW;
+        match self {
+            Call::Message(octets) => second::message(table, time, true, octets, &OFFER, reply),
+            Call::Look(octets) => second::look(table, octets),
+            Call::Enrol(suffix) => second::enrol(table, time, suffix, TERMS.0, TERMS.1, 256),
+            Call::Issue(pair) => second::issue(table, time, pair, 256),
+            Call::Revoke(pair) => second::revoke(table, time, pair),
+        }
+    }
+}
+
+// ---- Times ----
+
+/// Nanoseconds: the first quartile, the median and the third quartile.
+type Figures = [i64; 3];
+
+/// Of both sides, ours first.
+type Times = [Figures; 2];
+
+/// One call's nanoseconds.
+fn timed<T>(call: impl FnOnce() -> T) -> i64 {
+    let from = Instant::now();
+    black_box(call());
+    from.elapsed().as_nanos() as i64
+}
+
+fn figures(mut times: Vec<i64>) -> Figures {
+    times.sort_unstable();
+    [1, 2, 3].map(|quarter| times[(times.len() - 1) * quarter / 4])
+}
+
+/// Both sides, turn by turn, after a tenth as many turns that do not count.
+fn in_turns(mut ours: impl FnMut() -> i64, mut theirs: impl FnMut() -> i64) -> Times {
+    let mut turn = || [ours(), theirs()];
+    let slower = turn().into_iter().max().map_or(1, |slower| slower.max(1));
+    let turns = ((ENOUGH / slower) as usize).clamp(LEAST_TURNS, MOST_TURNS) | 1;
+    (0..turns / 10).for_each(|_| {
+        turn();
+    });
+    let turns: Vec<[i64; 2]> = (0..turns).map(|_| turn()).collect();
+    [0, 1].map(|side| figures(turns.iter().map(|turn| turn[side]).collect()))
+}
+
+/// What is asked of an answer, and of whether the table changed.
+type Expected = fn(Result<Answer, u64>, bool) -> bool;
+
+/// A call on `start`, which is restored before each turn where it changes. The
+/// sides agree, and what they do is as expected.
+fn measure(start: &Table, call: Call, expected: Expected) -> Times {
+    let their_start = table_of(start);
+    let (mut ours, mut theirs) = (start.clone(), their_start.clone());
+    let (mut our_reply, mut their_reply) = (vec![0; 65_535], vec![0; 65_535]);
+    let answer = call
+        .ours(&mut ours, &mut our_reply)
+        .map_err(Refusal::number);
+    let their_answer = as_ours(call.theirs(&mut theirs, &mut their_reply));
+    assert_eq!(answer, their_answer);
+    assert_eq!(our_reply, their_reply);
+    assert_eq!(table_of(&ours), theirs);
+    let changes = theirs != their_start;
+    assert!(expected(answer, changes), "{answer:?}");
+    in_turns(
+        || {
+            if changes {
+                ours.clone_from(start);
+            }
+            timed(|| black_box(call).ours(&mut ours, &mut our_reply))
+        },
+        || {
+            if changes {
+                theirs = their_start.clone();
+            }
+            timed(|| black_box(call).theirs(&mut theirs, &mut their_reply))
+        },
+    )
+}
+
+// ---- Printing ----
+
+fn print_head(what: &str) {
+    println!("\n| {what} | ours | second | ratio |");
+    println!("|---|---|---|---|");
+}
+
+/// A median with its quartiles.
+fn shown(figures: Figures) -> String {
+    let (unit, digits, name) = match figures[1] {
+        ..1_000 => (1.0, 0, "ns"),
+        1_000..1_000_000 => (1e3, 2, "µs"),
+        _ => (1e6, 2, "ms"),
+    };
+    let [first, median, third] = figures.map(|time| format!("{:.digits$}", time as f64 / unit));
+    format!("{median} {name} ({first}–{third})")
+}
+
+fn print_row(what: &str, [ours, theirs]: Times) {
+    let ratio = ours[1] as f64 / theirs[1].max(1) as f64;
+    println!(
+        "| {what} | {} | {} | {ratio:.2} |",
+        shown(ours),
+        shown(theirs)
+    );
+}
+
+// ---- 64 pairs ----
+
+/// Where the offices' names differ, which decides what comparing them costs.
+#[derive(Clone, Copy)]
+enum Differ {
+    Early,
+    Late,
+    Last,
+}
+
+impl Differ {
+    fn described(self) -> &'static str {
+        match self {
+            Differ::Early => "suffixes of 19 octets that differ in the 2nd or 3rd",
+            Differ::Late => "suffixes of 19 octets that differ in the 9th or 10th",
+            Differ::Last => "suffixes of 128 octets that differ in the 126th or 127th",
+        }
+    }
+
+    fn numbered(self, number: u64) -> String {
+        match self {
+            Differ::Early => format!("{number:02}-office.example."),
+            Differ::Late => format!("office-{number:02}.example."),
+            Differ::Last => format!("{0}.{0}.{number:02}.", "x".repeat(61)),
+        }
+    }
+
+    /// The last pair is at the first place, so that each side searches longest.
+    fn suffix(self, pair: u64) -> String {
+        self.numbered(64 - pair)
+    }
+
     fn key(self, serial: u64) -> String {
         format!("{serial}.{}", self.suffix(64))
     }
 
-    fn table(self) -> Table {
-        let mut table = Table::new(NOW).expect("a new table");
-        for pair in 1..=64 {
-            let suffix = name(&self.suffix(pair));
-            let answer = table.enrol(NOW, &suffix, 86_400, 43_200, 256);
-            answer.expect("enrolled");
-        }
-        table
+    fn table(self, pairs: u64) -> Table {
+        let suffixes = (1..=pairs).map(|pair| name(&self.suffix(pair)));
+        enrolled(suffixes)
     }
 
-    /// An update of one address in zone z.example., 143 octets.
-    fn update(self, serial: u64) -> Vec<u8> {
-        let mut draft = Draft::empty().ask(&name("z.example."), SOA, IN);
-        draft.flags = 0x2800;
-        let owner = b"\x07counter\xc0\x0c";
-        draft
-            .authority
-            .push(record(owner, A, IN, 300, &[192, 0, 2, 1]));
-        let octets = draft.signed(&self.key(serial), NOW);
-        assert_eq!(octets.len(), 143);
-        octets
+    /// An update of one address in zone z.example.
+    fn update(self, serial: u64, time: u64) -> Vec<u8> {
+        update().signed(&self.key(serial), time)
     }
 
     fn renewal(self) -> Vec<u8> {
@@ -113,115 +212,122 @@ impl Offices {
     }
 }
 
-/// One call's nanoseconds.
-fn timed<T>(call: impl FnOnce() -> T) -> u64 {
-    let from = Instant::now();
-    black_box(call());
-    from.elapsed().as_nanos() as u64
+fn update() -> Draft {
+    let mut draft = Draft::empty().ask(&name("z.example."), SOA, IN);
+    draft.flags = 0x2800;
+    let owner = b"\x07counter\xc0\x0c";
+    draft
+        .authority
+        .push(record(owner, A, IN, 300, &[192, 0, 2, 1]));
+    draft
 }
 
-fn median(mut times: Vec<u64>) -> u64 {
-    times.sort_unstable();
-    times[times.len() / 2]
-}
-
-/// The median of a call on one side alone.
-fn alone(mut call: impl FnMut() -> u64) -> u64 {
-    for _ in 0..WARM_UP {
-        call();
+fn enrolled(suffixes: impl Iterator<Item = Vec<u8>>) -> Table {
+    let mut table = Table::new(NOW).expect("a new table");
+    for suffix in suffixes {
+        let answer = table.enrol(NOW, &suffix, TERMS.0, TERMS.1, 256);
+        answer.expect("enrolled");
     }
-    median((0..ROUNDS).map(|_| call()).collect())
+    table
 }
 
-/// The medians of both sides, turn by turn.
-fn in_turns(mut ours: impl FnMut() -> u64, mut theirs: impl FnMut() -> u64) -> [u64; 2] {
-    let mut round = || [ours(), theirs()];
-    for _ in 0..WARM_UP {
-        round();
+fn is_signed(answer: Result<Answer, u64>, changes: bool) -> bool {
+    !changes && answer.is_ok_and(|answer| answer.serial == 1 && answer.length == 0)
+}
+
+fn is_granted(answer: Result<Answer, u64>, changes: bool) -> bool {
+    changes && answer.is_ok_and(|answer| answer.serial == 1 && answer.length > 0)
+}
+
+fn is_enrolled(answer: Result<Answer, u64>, changes: bool) -> bool {
+    changes && answer.is_ok_and(|answer| answer.pair == 64)
+}
+
+fn measure_calls(offices: Differ) {
+    let table = offices.table(64);
+    let mut renewed = table.clone();
+    let renewal = offices.renewal();
+    let granted = renewed.message(NOW, true, &renewal, &OFFER, &mut [0; 512]);
+    granted.expect("granted");
+    let update = offices.update(1, NOW);
+
+    print_head(offices.described());
+    let show = |what: &str, start, call, expected| print_row(what, measure(start, call, expected));
+    let what = format!("ordinary signed update, {} octets", update.len());
+    show(&what, &table, Call::Message(&update), is_signed);
+    show("renewal", &table, Call::Message(&renewal), is_granted);
+    let adoption = offices.adoption();
+    show("adoption", &renewed, Call::Message(&adoption), is_granted);
+    let unknown = offices.update(9, NOW);
+    show("BADKEY", &table, Call::Message(&unknown), |answer, _| {
+        answer.is_ok_and(|answer| answer.error == 17)
+    });
+    let late = offices.update(1, NOW - 1_000);
+    show("BADTIME", &table, Call::Message(&late), |answer, _| {
+        answer.is_ok_and(|answer| answer.error == 18)
+    });
+    show("look", &table, Call::Look(&update), is_signed);
+    let less_one = offices.table(63);
+    let (before, after) = (name(&offices.numbered(0)), name(&offices.numbered(99)));
+    let what = "enrol the 64th, before the others";
+    show(what, &less_one, Call::Enrol(&before), is_enrolled);
+    let what = "enrol the 64th, after the others";
+    show(what, &less_one, Call::Enrol(&after), is_enrolled);
+    show("issue", &table, Call::Issue(64), |answer, changes| {
+        changes && answer.is_ok_and(|answer| answer.serial == 2)
+    });
+    show("revoke", &table, Call::Revoke(64), |answer, changes| {
+        changes && answer.is_ok_and(|answer| answer.serial == 1)
+    });
+    let what = "of these, the table rules: a look refused with SIZE";
+    show(what, &table, Call::Look(&[]), |answer, _| {
+        answer == Err(Refusal::Size.number())
+    });
+    let what = "and of a look, the search and the key's name";
+    print_row(what, searching(&table, &update));
+}
+
+// ---- Reading ----
+
+/// A table on both sides, to look at.
+struct Looked {
+    ours: Table,
+    theirs: second::Table,
+}
+
+impl Looked {
+    fn at(table: &Table) -> Looked {
+        Looked {
+            ours: table.clone(),
+            theirs: table_of(table),
+        }
     }
-    let rounds: Vec<[u64; 2]> = (0..ROUNDS).map(|_| round()).collect();
-    [0, 1].map(|side| median(rounds.iter().map(|round| round[side]).collect()))
+
+    /// What a look takes longer than one that is refused with SIZE.
+    fn ours(&self, message: &[u8]) -> i64 {
+        timed(|| self.ours.look(black_box(message))) - timed(|| self.ours.look(black_box(&[])))
+    }
+
+    fn theirs(&self, message: &[u8]) -> i64 {
+        let look = |message| second::look(&self.theirs, message);
+        timed(|| look(black_box(message))) - timed(|| look(black_box(&[])))
+    }
 }
 
-fn print_row(what: &str, [ours, theirs]: [u64; 2]) {
-    let ratio = ours as f64 / theirs as f64;
-    println!("| {what} | {ours} ns | {theirs} ns | {ratio:.2} |");
+/// A look on a table with no pairs, less one that is refused with SIZE.
+fn reading(message: &[u8]) -> Times {
+    let empty = Looked::at(&Table::new(NOW).expect("a new table"));
+    in_turns(|| empty.ours(message), || empty.theirs(message))
 }
 
-/// A message on `start`, which is restored before each call where it changes.
-fn measure(
-    what: &str,
-    start: &Table,
-    message: &[u8],
-    changes: bool,
-    expected: fn(&Answer) -> bool,
-) {
-    let mut checked = Sides::of(start);
-    checked.compare(message, expected);
-    assert_eq!(checked.ours != *start, changes);
-    // The two sides are taken apart so that each closure borrows its own.
-    let (mut ours, mut theirs) = (Sides::of(start), Sides::of(start));
-    let start_of_theirs = theirs.theirs.clone();
-    let medians = in_turns(
-        || {
-            if changes {
-                ours.ours.clone_from(start);
-            }
-            timed(|| ours.our_message(black_box(message)))
-        },
-        || {
-            if changes {
-                theirs.theirs = start_of_theirs.clone();
-            }
-            timed(|| theirs.their_message(black_box(message)))
-        },
-    );
-    print_row(what, medians);
-}
-
-/// What restoring costs, which no other figure has in it.
-fn measure_copies(start: &Table) {
-    let mut ours = start.clone();
-    let start_of_theirs = table_of(start.image());
-    let mut theirs = start_of_theirs.clone();
-    let medians = in_turns(
-        || timed(|| ours.clone_from(black_box(start))),
-        || timed(|| theirs = black_box(&start_of_theirs).clone()),
-    );
-    print_row("restoring alone: image copied; table cloned", medians);
-}
-
-/// Decoding and the table rules: a look that is refused with SIZE. The second
-/// reader has nothing to decode.
-fn measure_rules(table: &Table) {
-    let theirs = table_of(table.image());
-    assert_eq!(table.look(&[]), Err(Refusal::Size));
-    assert_eq!(second::look(&theirs, &[]), Err(second::Refusal::Size));
-    let medians = in_turns(
-        || timed(|| table.look(black_box(&[]))),
-        || timed(|| second::look(black_box(&theirs), &[])),
-    );
-    print_row(
-        "a look refused with SIZE: decoding and the table rules",
-        medians,
-    );
-}
-
-/// Reading alone: a look at a message on a table with no pairs, less a look
-/// that is refused with SIZE.
-fn measure_reading(what: &str, message: &[u8]) {
-    let ours = Table::new(NOW).expect("a new table");
-    let theirs = table_of(ours.image());
-    assert!(ours.look(message).is_ok() && second::look(&theirs, message).is_ok());
-    let look_at = |message: &[u8]| {
-        in_turns(
-            || timed(|| ours.look(black_box(message))),
-            || timed(|| second::look(black_box(&theirs), message)),
-        )
-    };
-    let (whole, refused) = (look_at(message), look_at(&[]));
-    let reading = [0, 1].map(|side| whole[side].saturating_sub(refused[side]));
-    print_row(what, reading);
+/// The same on a table, less the reading.
+fn searching(table: &Table, message: &[u8]) -> Times {
+    let empty = Looked::at(&Table::new(NOW).expect("a new table"));
+    let full = Looked::at(table);
+    in_turns(
+        || full.ours(message) - empty.ours(message),
+        || full.theirs(message) - empty.theirs(message),
+    )
 }
 
 /// A query with so many records, each with a name of its own.
@@ -236,100 +342,108 @@ fn long_message(records: usize) -> Vec<u8> {
     draft.signed("1.z.example.", NOW)
 }
 
-/// Decoding alone: the last row's tag is unknown, so that all other rows are
-/// read and no rule is looked at.
-fn decoding(table: &Table) -> u64 {
-    let mut image = *table.image();
-    image[row(64) + KEYS] = 3;
-    let table = Table::from_image(&image);
-    assert_eq!(table.look(&[]), Err(Refusal::Table));
-    alone(|| timed(|| table.look(black_box(&[]))))
-}
-
-/// Encoding alone: what a revocation that is done takes longer than one that
-/// is refused with NOPAIR, which writes only the clock.
-fn encoding(table: &Table) -> u64 {
-    let (mut done, mut refused) = (table.clone(), table.clone());
-    assert!(done.revoke(NOW, 64).is_ok());
-    assert_eq!(refused.revoke(NOW, 65), Err(Refusal::NoPair));
-    let [done, refused] = in_turns(
-        || timed(|| done.revoke(NOW, black_box(64))),
-        || timed(|| refused.revoke(NOW, black_box(65))),
-    );
-    done.saturating_sub(refused)
-}
-
-fn compare_sides(what: &str, offices: Offices) {
-    let table = offices.table();
-    let mut renewed = Sides::of(&table);
-    renewed.our_message(&offices.renewal()).expect("renewed");
-    let is_granted: fn(&Answer) -> bool = |answer| answer.length > 0 && answer.error == 0;
-
-    println!("| {what} | C interface | second reader | ratio |");
-    println!("|---|---|---|---|");
-    let update = "ordinary signed update, 143 octets";
-    measure(update, &table, &offices.update(1), false, |answer| {
-        (answer.length, answer.pair, answer.serial) == (0, 64, 1)
-    });
-    measure("renewal", &table, &offices.renewal(), true, is_granted);
-    measure(
-        "adoption",
-        &renewed.ours,
-        &offices.adoption(),
-        true,
-        is_granted,
-    );
-    measure("BADKEY", &table, &offices.update(9), false, |answer| {
-        answer.length > 0 && answer.error == 17
-    });
-    measure_rules(&table);
-    measure_copies(&table);
-    println!();
-}
-
-fn compare_reading() {
-    println!("| reading alone | C interface | second reader | ratio |");
-    println!("|---|---|---|---|");
-    measure_reading("the update of 143 octets", &Offices::DifferEarly.update(1));
+fn measure_reading() {
+    print_head("reading alone: a look on a table with no pairs less one refused with SIZE");
+    let update = Differ::Early.update(1, NOW);
+    let what = format!("the update of {} octets", update.len());
+    print_row(&what, reading(&update));
     let long = long_message(1_500);
-    measure_reading(&format!("1,501 records, {} octets", long.len()), &long);
-    println!();
+    let what = format!("1,501 records, {} octets", long.len());
+    print_row(&what, reading(&long));
 }
 
-fn measure_image(table: &Table) {
-    let new_table = alone(|| timed(|| Table::new(black_box(NOW))));
-    let nothing = alone(|| timed(|| ()));
-    let print = |what: &str, time: u64| println!("| {what} | {time} ns |");
-    println!("| C interface alone | time |");
-    println!("|---|---|");
-    print(
-        "decoding: a look refused with TABLE for the last row's tag",
-        decoding(table),
+// ---- The worst messages ----
+
+/// The last message of a worst script, signed by the first key of the pair `a.`
+/// at 1000, for a table of this time.
+fn generated(kind: &str) -> Vec<u8> {
+    let second = Path::new(env!("CARGO_MANIFEST_DIR")).join("../../second/Cargo.toml");
+    let script = Command::new("cargo")
+        .args([
+            "run",
+            "--release",
+            "--offline",
+            "--quiet",
+            "--bin",
+            "scripts",
+        ])
+        .arg("--manifest-path")
+        .arg(second)
+        .args(["--", "worst", kind])
+        .output()
+        .expect("cargo runs");
+    assert!(script.status.success());
+    let script = String::from_utf8(script.stdout).expect("a script is text");
+    let last = script.lines().rfind(|line| line.starts_with("message"));
+    let mut octets = hex(last.and_then(|line| line.rsplit(' ').next()).expect("one"));
+    // The TSIG's data has 61 octets: the algorithm's name, then the time.
+    let time = octets.len() - 61 + 13;
+    assert_eq!(octets[time..time + 6], [0, 0, 0, 0, 3, 0xe8]);
+    octets[time..time + 6].copy_from_slice(&NOW.to_be_bytes()[2..]);
+    octets
+}
+
+/// A message whose TSIG's name ends behind so many pointers, the TSIG's own
+/// counted: its first two labels are those of a key of every pair.
+fn pointers(count: u16, key: &str, end: &str) -> Vec<u8> {
+    let mut data = name(end);
+    let first = 12 + 11; // the header, and the root's name to the data's length
+    let mut target = first;
+    for _ in 1..count {
+        let at = first + data.len() as u16;
+        data.extend((0xc000 | target).to_be_bytes());
+        target = at;
+    }
+    let mut draft = Draft::empty();
+    draft.answer.push(record(&[0], 16, IN, 0, &data));
+    let mut tsig = Tsig::by(key, NOW);
+    tsig.owner.pop();
+    tsig.owner.extend((0xc000 | target).to_be_bytes());
+    draft.with(&tsig)
+}
+
+fn measure_worst() {
+    print_head("message call, the worst messages");
+    let table = enrolled([name("a.")].into_iter());
+    for (kind, what) in [
+        ("chain", "a TSIG's name at the end of the longest chain"),
+        ("records", "full of records with such names"),
+        ("questions", "full of questions with such names"),
+    ] {
+        let message = generated(kind);
+        let what = format!("`{kind}`: {what}, {} octets, one pair", message.len());
+        print_row(&what, measure(&table, Call::Message(&message), is_signed));
+    }
+    let suffix = |pair| format!("office.{:02}.example.", 64 - pair);
+    let table = enrolled((1..=64).map(|pair| name(&suffix(pair))));
+    let message = pointers(8_146, "1.office.", "00.example.");
+    let what = format!(
+        "a TSIG's name that ends behind 8,146 pointers, {} octets, 64 pairs that differ in their second label",
+        message.len()
     );
-    print(
-        "encoding: a revocation done less one refused with NOPAIR",
-        encoding(table),
-    );
-    print(
-        "new table: encoding 64 empty rows, and the wrapper's allocation",
-        new_table,
-    );
-    print(
-        "the clock's own cost, in every figure but that of encoding",
-        nothing,
-    );
+    print_row(&what, measure(&table, Call::Message(&message), is_signed));
+}
+
+/// For a second, so that the processor runs at its speed.
+fn warm_up() {
+    let from = Instant::now();
+    let table = Differ::Early.table(64);
+    while from.elapsed().as_secs() < 1 {
+        black_box(table.look(black_box(&[]))).expect_err("SIZE");
+    }
 }
 
 fn main() {
-    println!("Medians of {ROUNDS}, 64 pairs.\n");
-    compare_sides(
-        "suffixes of 19 octets that differ in the 2nd or 3rd",
-        Offices::DifferEarly,
+    println!("Medians and quartiles, {MOST_TURNS} turns of the two sides; of a call that takes over 0.2 ms fewer, at least {LEAST_TURNS}.");
+    warm_up();
+    let [nothing, _] = in_turns(|| timed(|| ()), || timed(|| ()));
+    println!(
+        "The clock's own cost is in each figure: {}.",
+        shown(nothing)
     );
-    compare_sides(
-        "suffixes of 19 octets that differ in the 9th or 10th",
-        Offices::DifferLate,
-    );
-    compare_reading();
-    measure_image(&Offices::DifferEarly.table());
+    for offices in [Differ::Early, Differ::Late, Differ::Last] {
+        measure_calls(offices);
+    }
+    measure_reading();
+    measure_worst();
 }

@@ -6,59 +6,67 @@
 #![deny(missing_docs)]
 #![deny(unsafe_op_in_unsafe_fn)]
 
+mod view;
+
 use std::fmt;
+pub use view::{Key, Keys, Pair, View};
 
-/// The words of an image.
-pub const IMAGE_WORDS: usize = 2050;
+/// The words of a table.
+pub const TABLE_WORDS: usize = 1091;
+/// The octets of a table's suffixes.
+pub const TABLE_OCTETS: usize = 8192;
 
-/// A table as words that a caller may store; the header has their layout.
-pub type Image = [u64; IMAGE_WORDS];
+/// A table's words; the header has their layout.
+pub type Words = [u64; TABLE_WORDS];
+/// A table's suffixes, 128 octets for each place.
+pub type Octets = [u8; TABLE_OCTETS];
 
-type Words = [u64; 6];
+type Told = [u64; 6];
 
+// A reference to an array is what C calls a pointer to its first word.
 extern "C" {
     fn luffcringle_new_table(
+        words: &mut Words,
+        suffixes: &Octets,
         time: u64,
-        image: *mut u64,
-        image_words: usize,
-        answer: *mut u64,
+        answer: &mut Told,
     ) -> u64;
     fn luffcringle_enrol(
-        image: *mut u64,
-        image_words: usize,
+        words: &mut Words,
+        suffixes: &mut Octets,
         time: u64,
         suffix: *const u8,
         suffix_length: usize,
         lifetime: u64,
         fresh: u64,
         algorithm: u64,
-        answer: *mut u64,
+        answer: &mut Told,
     ) -> u64;
     fn luffcringle_issue(
-        image: *mut u64,
-        image_words: usize,
+        words: &mut Words,
+        suffixes: &Octets,
         time: u64,
         pair: u64,
         algorithm: u64,
-        answer: *mut u64,
+        answer: &mut Told,
     ) -> u64;
     fn luffcringle_revoke(
-        image: *mut u64,
-        image_words: usize,
+        words: &mut Words,
+        suffixes: &Octets,
         time: u64,
         pair: u64,
-        answer: *mut u64,
+        answer: &mut Told,
     ) -> u64;
     fn luffcringle_look(
-        image: *const u64,
-        image_words: usize,
+        words: &Words,
+        suffixes: &Octets,
         message: *const u8,
         message_length: usize,
-        answer: *mut u64,
+        answer: &mut Told,
     ) -> u64;
     fn luffcringle_message(
-        image: *mut u64,
-        image_words: usize,
+        words: &mut Words,
+        suffixes: &Octets,
         time: u64,
         good: bool,
         message: *const u8,
@@ -67,14 +75,14 @@ extern "C" {
         offer_length: usize,
         reply: *mut u8,
         reply_room: usize,
-        answer: *mut u64,
+        answer: &mut Told,
     ) -> u64;
 }
 
 /// Why a call was refused, `as u64` its number in document 01.
 #[derive(Clone, Copy, Debug, PartialEq, Eq, Hash)]
 pub enum Refusal {
-    /// The image holds no table, or one that breaks a table rule.
+    /// The words and octets hold no table, or one that breaks a table rule.
     Table = 1,
     /// The time is 2^48 - 2^31 or more.
     Time,
@@ -155,47 +163,79 @@ pub struct Answer {
     pub serial: u64,
 }
 
+/// As `struct luffcringle_table` in C.
+#[derive(Clone, Copy)]
+#[repr(C)]
+struct Lent {
+    words: Words,
+    suffixes: Octets,
+}
+
 /// A table of up to 64 pairs. Looks may share one between threads.
-#[derive(Debug, PartialEq, Eq)]
+///
+/// There is no `==`: some words have no meaning, and two tables that differ in
+/// them alone are the same. Compare their views.
 pub struct Table {
-    image: Box<Image>,
+    lent: Box<Lent>,
 }
 
 impl Clone for Table {
     fn clone(&self) -> Table {
-        Table::from_image(&self.image)
+        Table {
+            lent: self.lent.clone(),
+        }
     }
 
     /// Into the words that are there: nothing is allocated.
     fn clone_from(&mut self, source: &Table) {
-        self.image.copy_from_slice(&source.image[..]);
+        *self.lent = *source.lent;
+    }
+}
+
+impl fmt::Debug for Table {
+    fn fmt(&self, f: &mut fmt::Formatter<'_>) -> fmt::Result {
+        f.debug_tuple("Table").field(&self.view()).finish()
     }
 }
 
 impl Table {
     /// New table: no pairs, its clock the time given.
     pub fn new(time: u64) -> Result<Table, Refusal> {
-        let mut table = Table::from_image(&[0; IMAGE_WORDS]);
-        let mut answer = Words::default();
-        let image = &mut table.image;
-        // SAFETY: image and answer are borrowed alone and as long as told.
-        let number = unsafe {
-            luffcringle_new_table(time, image.as_mut_ptr(), image.len(), answer.as_mut_ptr())
-        };
-        told(number, answer).map(|_| table)
+        let mut table = Table::from_parts(&[0; TABLE_WORDS], &[0; TABLE_OCTETS]);
+        table.clear(time).map(|_| table)
     }
 
-    /// The table of a stored image. Any words do: calls on an image that holds
-    /// no table, or one that breaks a table rule, are refused.
-    pub fn from_image(image: &Image) -> Table {
+    /// New table in the place of this one, whatever it held. A refusal leaves
+    /// this one.
+    pub fn clear(&mut self, time: u64) -> Result<Answer, Refusal> {
+        let Lent { words, suffixes } = &mut *self.lent;
+        let mut answer = Told::default();
+        // SAFETY: the references are all that is lent.
+        let number = unsafe { luffcringle_new_table(words, suffixes, time, &mut answer) };
+        told(number, answer)
+    }
+
+    /// The table of stored words and octets. Any do: calls are refused where
+    /// they hold no table, or one that breaks a table rule.
+    pub fn from_parts(words: &Words, suffixes: &Octets) -> Table {
         Table {
-            image: Box::new(*image),
+            lent: Box::new(Lent {
+                words: *words,
+                suffixes: *suffixes,
+            }),
         }
     }
 
-    /// The words to store.
-    pub fn image(&self) -> &Image {
-        &self.image
+    /// The words and the octets to store.
+    pub fn parts(&self) -> (&Words, &Octets) {
+        (&self.lent.words, &self.lent.suffixes)
+    }
+
+    /// What the table holds; `None` where words and octets break the layout
+    /// rule. A table that breaks another rule is shown as it is, though every
+    /// call refuses it.
+    pub fn view(&self) -> Option<View> {
+        view::read(&self.lent.words, &self.lent.suffixes)
     }
 
     /// Enrol: adds a pair, `suffix` an uncompressed wire name, with its first
@@ -208,19 +248,20 @@ impl Table {
         fresh: u64,
         algorithm: u64,
     ) -> Result<Answer, Refusal> {
-        let mut answer = Words::default();
-        // SAFETY: image and answer are borrowed alone, all are as long as told.
+        let Lent { words, suffixes } = &mut *self.lent;
+        let mut answer = Told::default();
+        // SAFETY: suffix is as long as told.
         let number = unsafe {
             luffcringle_enrol(
-                self.image.as_mut_ptr(),
-                self.image.len(),
+                words,
+                suffixes,
                 time,
                 suffix.as_ptr(),
                 suffix.len(),
                 lifetime,
                 fresh,
                 algorithm,
-                answer.as_mut_ptr(),
+                &mut answer,
             )
         };
         told(number, answer)
@@ -228,51 +269,37 @@ impl Table {
 
     /// Issue: a fresh adopted key in the place of what the pair had.
     pub fn issue(&mut self, time: u64, pair: u64, algorithm: u64) -> Result<Answer, Refusal> {
-        let mut answer = Words::default();
-        // SAFETY: image and answer are borrowed alone and as long as told.
-        let number = unsafe {
-            luffcringle_issue(
-                self.image.as_mut_ptr(),
-                self.image.len(),
-                time,
-                pair,
-                algorithm,
-                answer.as_mut_ptr(),
-            )
-        };
+        let Lent { words, suffixes } = &mut *self.lent;
+        let mut answer = Told::default();
+        // SAFETY: the references are all that is lent.
+        let number =
+            unsafe { luffcringle_issue(words, suffixes, time, pair, algorithm, &mut answer) };
         told(number, answer)
     }
 
     /// Revoke early: the partial time of the pair's adopted key becomes the
     /// earlier of itself and now.
     pub fn revoke(&mut self, time: u64, pair: u64) -> Result<Answer, Refusal> {
-        let mut answer = Words::default();
-        // SAFETY: image and answer are borrowed alone and as long as told.
-        let number = unsafe {
-            luffcringle_revoke(
-                self.image.as_mut_ptr(),
-                self.image.len(),
-                time,
-                pair,
-                answer.as_mut_ptr(),
-            )
-        };
+        let Lent { words, suffixes } = &mut *self.lent;
+        let mut answer = Told::default();
+        // SAFETY: the references are all that is lent.
+        let number = unsafe { luffcringle_revoke(words, suffixes, time, pair, &mut answer) };
         told(number, answer)
     }
 
     /// Look: the pair and the serial of the key that the message's TSIG names,
     /// so that the caller can verify the MAC before it calls `message`.
     pub fn look(&self, message: &[u8]) -> Result<Answer, Refusal> {
-        let mut answer = Words::default();
-        // SAFETY: answer is borrowed alone, all are as long as told, and the
-        // image is only read.
+        let Lent { words, suffixes } = &*self.lent;
+        let mut answer = Told::default();
+        // SAFETY: message is as long as told.
         let number = unsafe {
             luffcringle_look(
-                self.image.as_ptr(),
-                self.image.len(),
+                words,
+                suffixes,
                 message.as_ptr(),
                 message.len(),
-                answer.as_mut_ptr(),
+                &mut answer,
             )
         };
         told(number, answer)
@@ -290,13 +317,14 @@ impl Table {
         offer: &[u8],
         reply: &mut [u8],
     ) -> Result<Answer, Refusal> {
-        let mut answer = Words::default();
-        // SAFETY: image, reply and answer are borrowed alone, all are as long
-        // as told.
+        let Lent { words, suffixes } = &mut *self.lent;
+        let mut answer = Told::default();
+        // SAFETY: message, offer and reply are as long as told, and reply is
+        // borrowed alone.
         let number = unsafe {
             luffcringle_message(
-                self.image.as_mut_ptr(),
-                self.image.len(),
+                words,
+                suffixes,
                 time,
                 good,
                 message.as_ptr(),
@@ -305,7 +333,7 @@ impl Table {
                 offer.len(),
                 reply.as_mut_ptr(),
                 reply.len(),
-                answer.as_mut_ptr(),
+                &mut answer,
             )
         };
         told(number, answer)
@@ -313,7 +341,7 @@ impl Table {
 }
 
 /// What a call returned and the words of its answer, whose first is the same.
-fn told(number: u64, answer: Words) -> Result<Answer, Refusal> {
+fn told(number: u64, answer: Told) -> Result<Answer, Refusal> {
     let [same_number, length, error, skew, pair, serial] = answer;
     debug_assert_eq!(number, same_number);
     if number != 0 {

@@ -1,31 +1,11 @@
-//! What no script can do: images of another length, edited words, and what
-//! lies in the buffers after a refusal.
+//! What no script can do: edited words and octets, and what lies in them and in
+//! the reply buffer afterwards.
 
 mod support;
 
-use luffcringle::{Answer, Image, Refusal, Table};
+use luffcringle::{Answer, Key, Keys, Octets, Refusal, Table, Words, TABLE_OCTETS, TABLE_WORDS};
 use support::build::{name, Draft, FILL};
-use support::{as_ours, row, table_of, ADOPTED, KEYS, NEXT_SERIAL, SPARE, SUFFIX, WAITING};
-
-// As in the header: the wrapper lends no image of another length.
-extern "C" {
-    fn luffcringle_new_table(time: u64, image: *mut u64, words: usize, answer: *mut u64) -> u64;
-    fn luffcringle_issue(
-        image: *mut u64,
-        words: usize,
-        time: u64,
-        pair: u64,
-        algorithm: u64,
-        answer: *mut u64,
-    ) -> u64;
-    fn luffcringle_look(
-        image: *const u64,
-        words: usize,
-        message: *const u8,
-        length: usize,
-        answer: *mut u64,
-    ) -> u64;
-}
+use support::*;
 
 const A: &str = "a.example.";
 
@@ -39,89 +19,294 @@ fn day() -> Table {
 
 /// DONE with this key of pair 1.
 fn key(serial: u64) -> Answer {
+    key_of(1, serial)
+}
+
+fn key_of(pair: u64, serial: u64) -> Answer {
     Answer {
-        pair: 1,
+        pair,
         serial,
         ..Answer::default()
     }
 }
 
-fn edited(table: &Table, edit: impl FnOnce(&mut Image)) -> Table {
-    let mut image = *table.image();
-    edit(&mut image);
-    Table::from_image(&image)
-}
-
 /// A waiting key that no call can leave: the adopted one is still fresh.
 fn with_waiting_key() -> Table {
-    edited(&day(), |image| {
-        let row = &mut image[row(1)..];
+    give_waiting_key(&day(), 1)
+}
+
+fn give_waiting_key(table: &Table, pair: u64) -> Table {
+    let from = row_of(table, pair);
+    edited(table, |words, _| {
+        let row = &mut words[from..];
         row[NEXT_SERIAL] = 3;
         row[KEYS] = 2;
         row[WAITING..][..5].copy_from_slice(&[2, 256, 1000, 1400, 1600]);
     })
 }
 
-#[test]
-fn an_image_of_another_length_is_no_table() {
-    let message = Draft::ordinary().octets();
-    for words in [0, 1, 2049, 2051] {
-        let mut image = day().image().to_vec();
-        image.resize(words.max(2050), 0);
-        let before = image.clone();
-        let place = image.as_mut_ptr();
-        let mut answer = [7; 6];
-        let told = answer.as_mut_ptr();
-        // SAFETY: image has at least as many words as told.
-        let numbers = unsafe {
-            [
-                luffcringle_new_table(5, place, words, told),
-                luffcringle_issue(place, words, 1000, 1, 256, told),
-                luffcringle_look(place, words, message.as_ptr(), message.len(), told),
-            ]
+/// The names of 64 offices, some in upper case, not in order.
+fn office(pair: u64) -> String {
+    let number = pair * 37 % 101;
+    match pair % 4 {
+        0 => format!("OFFICE-{number:02}.example."),
+        _ => format!("office-{number:02}.example."),
+    }
+}
+
+/// So many of them. Every third has a waiting key, and every third no key.
+fn offices(count: u64) -> Table {
+    let mut table = Table::new(1000).expect("a new table");
+    for pair in 1..=count {
+        let answer = table.enrol(1000, &name(&office(pair)), 600, 400, 256);
+        assert_eq!(answer, Ok(key_of(pair, 1)));
+        match pair % 3 {
+            0 => table = give_waiting_key(&table, pair),
+            1 => {
+                table = edited(&table, |words, _| {
+                    words[row(place(&table, pair)) + KEYS] = 0
+                })
+            }
+            _ => (),
+        }
+    }
+    assert!((1..=count).any(|pair| place(&table, pair) as u64 != pair - 1));
+    table
+}
+
+/// Both hold the same words and octets.
+fn is_left(before: &Table, after: &Table) -> bool {
+    before.parts() == after.parts()
+}
+
+/// All five calls that read a table refuse it with TABLE, and change nothing.
+fn refused_by_all(table: &Table, what: &str) {
+    let message = Draft::ordinary().signed("1.a.example.", 1000);
+    let mut lent = table.clone();
+    let mut reply = [FILL; 512];
+    let refused = [
+        lent.enrol(1001, &name("new.example."), 600, 400, 256),
+        lent.issue(1001, 1, 256),
+        lent.revoke(1001, 1),
+        lent.look(&message),
+        lent.message(1001, true, &message, &[5], &mut reply),
+    ];
+    assert_eq!(refused, [Err(Refusal::Table); 5], "{what}");
+    assert!(is_left(table, &lent), "{what}");
+    assert_eq!(reply, [FILL; 512], "{what}");
+}
+
+// ---- What is no table ----
+
+/// An edit of a table of `offices(6)` that breaks the layout rule.
+type Break = Box<dyn Fn(&mut Words, &mut Octets)>;
+
+fn set(word: usize, value: u64) -> Break {
+    Box::new(move |words, _| words[word] = value)
+}
+
+fn layout_breaks() -> Vec<(String, Break)> {
+    let mut breaks: Vec<(String, Break)> = Vec::new();
+    let mut add = |what: &str, value: u64, edit: Break| {
+        breaks.push((format!("{what}, {value}"), edit));
+    };
+    // Times 16 or 128 some of these wrap to a good place.
+    let large = [1 << 32, 1 << 57, 1 << 60, 1 << 63, u64::MAX];
+    for count in [5, 7, 64, 65, 66, 6 + (1 << 32)].into_iter().chain(large) {
+        add("a count of pairs", count, set(COUNT, count));
+    }
+    for place in [6, 63, 64].into_iter().chain(large) {
+        add("the place of a pair", place, set(MAP + 2, place));
+    }
+    for number in [6, 64].into_iter().chain(large) {
+        add("the pair at a place", number, set(row(4) + NUMBER, number));
+    }
+    for length in [0, 2, 129, 130, 256].into_iter().chain(large) {
+        add("a length", length, set(row(0) + LENGTH, length));
+    }
+    for tag in [3, 4, 256].into_iter().chain(large) {
+        add("a tag", tag, set(row(5) + KEYS, tag));
+    }
+    for algorithm in [0, 1, 255, 257, 511].into_iter().chain(large) {
+        for key in [ADOPTED, WAITING] {
+            let edit = move |words: &mut Words, _: &mut Octets| {
+                let all = (0..6).map(row).find(|&row| words[row + KEYS] == 2);
+                words[all.expect("a waiting key") + key + 1] = algorithm;
+            };
+            add("an algorithm", algorithm, Box::new(edit));
+        }
+    }
+    // A suffix begins with the octet 9 and `office-NN`.
+    for place in 1..6 {
+        let (here, before) = (128 * place, 128 * (place - 1));
+        let twin = move |_: &mut Words, suffixes: &mut Octets| {
+            suffixes.copy_within(before..here, here);
         };
-        assert_eq!(numbers, [1; 3]);
-        assert_eq!(answer, [1, 0, 0, 0, 0, 0]);
-        assert_eq!(image, before);
+        add("the suffix before", place as u64, Box::new(twin));
+        let in_cases = move |_: &mut Words, suffixes: &mut Octets| {
+            suffixes.copy_within(before..here, here);
+            suffixes[before + 1..][..6].make_ascii_uppercase();
+            suffixes[here + 1..][..6].make_ascii_lowercase();
+        };
+        add("the same in cases", place as u64, Box::new(in_cases));
+        let less = move |_: &mut Words, suffixes: &mut Octets| suffixes[here + 8] = b'/';
+        add("a suffix out of order", place as u64, Box::new(less));
+    }
+    breaks
+}
+
+#[test]
+fn what_breaks_the_layout_is_no_table() {
+    let table = offices(6);
+    for (what, edit) in layout_breaks() {
+        let broken = edited(&table, |words, suffixes| edit(words, suffixes));
+        assert!(!is_left(&table, &broken), "{what}");
+        assert_eq!(broken.view(), None, "{what}");
+        refused_by_all(&broken, &what);
     }
 }
 
 #[test]
-fn an_unknown_count_of_keys_is_no_table() {
-    for tag in [3, u64::MAX] {
-        let mut table = edited(&day(), |image| image[row(1) + KEYS] = tag);
-        let before = table.clone();
-        let message = Draft::ordinary().octets();
-        let mut reply = [FILL; 512];
-        let refused = [
-            table.enrol(1000, &name("b.example."), 600, 400, 256),
-            table.issue(1000, 1, 256),
-            table.revoke(1000, 1),
-            table.look(&message),
-            table.message(1000, true, &message, &[], &mut reply),
-        ];
-        assert_eq!(refused, [Err(Refusal::Table); 5]);
-        assert_eq!(table, before);
-        assert_eq!(reply, [FILL; 512]);
+fn two_numbers_to_one_place_are_no_table() {
+    let table = offices(6);
+    for one in 0..6 {
+        for other in (0..6).filter(|&other| other != one) {
+            let broken = edited(&table, |words, _| words[MAP + one] = words[MAP + other]);
+            assert_eq!(broken.view(), None);
+            refused_by_all(&broken, "two numbers to one place");
+            let broken = edited(&table, |words, _| {
+                words[row(one) + NUMBER] = words[row(other) + NUMBER];
+            });
+            assert_eq!(broken.view(), None);
+            refused_by_all(&broken, "one number at two places");
+        }
     }
 }
+
+/// A table that keeps the layout rule and breaks another is shown and refused.
+#[test]
+fn what_breaks_a_table_rule_is_refused() {
+    let table = with_waiting_key();
+    let row = row(0);
+    let edits = [
+        (CLOCK, 1 << 48),
+        (CLOCK, u64::MAX),
+        (CLOCK, 999), // before a key's inception
+        (row + LENGTH, 10),
+        (row + LENGTH, 12),
+        (row + LIFETIME, 400),
+        (row + LIFETIME, 601),
+        (row + LIFETIME, 1 << 31),
+        (row + FRESH, 0),
+        (row + FRESH, 600),
+        (row + NEXT_SERIAL, 0),
+        (row + NEXT_SERIAL, 2),
+        (row + NEXT_SERIAL, (1 << 32) + 1),
+        (row + ADOPTED, 0),
+        (row + ADOPTED, 2), // as the waiting key's
+        (row + ADOPTED + 2, 1001),
+        (row + ADOPTED + 3, 1600),
+        (row + WAITING + 3, 999),
+        (row + WAITING + 4, u64::MAX),
+    ];
+    for (word, value) in edits {
+        let broken = edited(&table, |words, _| words[word] = value);
+        assert!(!table_of(&broken).keeps_rules(), "word {word}");
+        refused_by_all(&broken, &format!("{value} in word {word}"));
+    }
+}
+
+/// Whatever is lent, the view does not panic, and look says what the second
+/// reader says of the view, or TABLE where there is none.
+#[test]
+fn any_words_are_judged() {
+    let mut random = Random(7);
+    let message = Draft::ordinary().signed(&format!("1.{}", office(2)), 1000);
+    let tables = [day(), with_waiting_key(), offices(6), offices(64)];
+    let (mut shown, mut kept, mut broken) = (0, 0, 0);
+    for _ in 0..20_000 {
+        let start = &tables[random.below(tables.len())];
+        let table = edited(start, |words, suffixes| {
+            let count = words[COUNT] as usize;
+            for _ in 0..=random.below(3) {
+                match random.below(8) {
+                    0 => suffixes[random.below(128 * count)] = random.next() as u8,
+                    1 => words[random.below(MAP)] = random.word(),
+                    2 => words[MAP + random.below(count)] = random.below(66) as u64,
+                    3 => {
+                        let (one, other) = (random.below(count), random.below(count));
+                        words.swap(MAP + one, MAP + other);
+                        words.swap(row(one), row(other));
+                    }
+                    _ => words[row(0) + random.below(16 * count)] = random.word(),
+                }
+            }
+        });
+        let expected = match table.view() {
+            None => Err(1),
+            Some(view) => as_ours(second::look(&theirs(&view), &message)),
+        };
+        assert_eq!(table.look(&message).map_err(Refusal::number), expected);
+        match (table.view(), expected) {
+            (None, _) => broken += 1,
+            (_, Err(_)) => shown += 1,
+            _ => kept += 1,
+        }
+    }
+    assert!([shown, kept, broken].iter().all(|&count| count > 1000));
+    for _ in 0..100 {
+        let mut words = [0; TABLE_WORDS];
+        words.iter_mut().for_each(|word| *word = random.word());
+        let table = Table::from_parts(&words, &[0xff; TABLE_OCTETS]);
+        assert!(table.view().is_none_or(|view| view.pairs.is_empty()));
+    }
+}
+
+// ---- The view ----
+
+#[test]
+fn the_view_is_in_order_of_enrolment() {
+    let view = offices(64).view().expect("a table");
+    assert_eq!((view.clock, view.pairs.len()), (1000, 64));
+    let first = Key {
+        serial: 1,
+        algorithm: 256,
+        inception: 1000,
+        partial: 1400,
+        expiry: 1600,
+    };
+    for (pair, shown) in (1..).zip(&view.pairs) {
+        assert_eq!(shown.suffix, name(&office(pair)));
+        assert_eq!((shown.lifetime, shown.fresh), (600, 400));
+        let (next_serial, keys) = match pair % 3 {
+            0 => {
+                let waiting = Key { serial: 2, ..first };
+                let adopted = first;
+                (3, Keys::Renewing { adopted, waiting })
+            }
+            1 => (2, Keys::None),
+            _ => (2, Keys::Adopted(first)),
+        };
+        assert_eq!((shown.next_serial, shown.keys), (next_serial, keys));
+    }
+}
+
+// ---- What stays ----
 
 #[test]
 fn serials_run_out() {
     let limit = 1 << 32;
-    let mut table = edited(&day(), |image| image[row(1) + NEXT_SERIAL] = limit - 1);
+    let next = row(0) + NEXT_SERIAL;
+    let mut table = edited(&day(), |words, _| words[next] = limit - 1);
     assert_eq!(table.issue(1000, 1, 256), Ok(key(limit - 1)));
-    assert_eq!(table.image()[row(1) + NEXT_SERIAL], limit);
+    assert_eq!(table.parts().0[next], limit);
     assert_eq!(table.issue(1000, 1, 256), Err(Refusal::Spent));
-    let mut broken = edited(&table, |image| image[row(1) + NEXT_SERIAL] = limit + 1);
-    assert_eq!(broken.issue(1000, 1, 256), Err(Refusal::Table));
 }
 
 #[test]
 fn a_waiting_key_is_deleted_alone() {
     let mut table = with_waiting_key();
-    let mut theirs = table_of(table.image());
-    let adopted = table.image()[row(1) + ADOPTED..][..5].to_vec();
+    let mut theirs = table_of(&table);
     let message = Draft::deletion("2.a.example.").signed("1.a.example.", 1200);
     let (mut reply, mut their_reply) = ([FILL; 512], [FILL; 512]);
     let answer = table.message(1200, true, &message, &[], &mut reply);
@@ -131,26 +316,26 @@ fn a_waiting_key_is_deleted_alone() {
     let answer = answer.expect("done");
     assert!(answer.length > 0);
     assert_eq!((answer.error, answer.pair, answer.serial), (0, 1, 1));
-    let row = &table.image()[row(1)..];
-    assert_eq!(row[KEYS], 1);
-    assert_eq!(row[ADOPTED..][..5], adopted);
-    assert_eq!(row[WAITING..][..5], [0; 5]);
-    assert_eq!(table_of(table.image()), theirs);
+    let keys = |table: &Table| table.view().expect("a table").pairs[0].keys;
+    assert_eq!(keys(&table), keys(&day()));
+    assert_eq!(table_of(&table), theirs);
 }
 
 /// A refused call leaves all but the clock, which is then `clock`.
 fn refused(
     refusal: Refusal,
     clock: u64,
-    call: impl FnOnce(&mut Table, &mut [u8]) -> Result<Answer, Refusal>,
+    call: impl Fn(&mut Table, &mut [u8]) -> Result<Answer, Refusal>,
 ) {
-    let before = with_waiting_key();
-    let mut table = before.clone();
-    let mut reply = [FILL; 20];
-    assert_eq!(call(&mut table, &mut reply), Err(refusal));
-    assert_eq!(reply, [FILL; 20], "{refusal}");
-    let expected = edited(&before, |image| image[0] = clock);
-    assert!(table == expected, "{refusal}");
+    let clean = with_waiting_key();
+    for before in [with_junk(&clean, &mut Random(3)), clean] {
+        let mut table = before.clone();
+        let mut reply = [FILL; 20];
+        assert_eq!(call(&mut table, &mut reply), Err(refusal));
+        assert_eq!(reply, [FILL; 20], "{refusal}");
+        let expected = edited(&before, |words, _| words[CLOCK] = clock);
+        assert!(is_left(&expected, &table), "{refusal}");
+    }
 }
 
 #[test]
@@ -166,6 +351,7 @@ fn a_refusal_leaves_all_but_the_clock() {
     let late = (1 << 48) - (1 << 31);
     let b = &name("b.example.");
     let offer = &[1; 1025];
+    refused(Refusal::Time, 1000, |t, _| t.clear(late));
     refused(Refusal::Time, 1000, |t, r| {
         t.message(late, true, query, &[], r)
     });
@@ -190,9 +376,16 @@ fn a_refusal_leaves_all_but_the_clock() {
     refused(Refusal::Room, 1001, |t, r| {
         t.message(1001, true, renewal, &[5], r)
     });
+    refused(Refusal::Time, 1000, |t, _| t.issue(late, 1, 256));
+    refused(Refusal::Clock, 1000, |t, _| t.issue(999, 1, 256));
+    refused(Refusal::NoPair, 1001, |t, _| t.issue(1001, 0, 256));
     refused(Refusal::NoPair, 1001, |t, _| t.issue(1001, 2, 256));
+    refused(Refusal::NoPair, 1001, |t, _| t.issue(1001, u64::MAX, 256));
     refused(Refusal::Term, 1001, |t, _| t.issue(1001, 1, 1));
+    refused(Refusal::Clock, 1000, |t, _| t.revoke(999, 1));
+    refused(Refusal::NoPair, 1001, |t, _| t.revoke(1001, 2));
     refused(Refusal::NoKey, 1600, |t, _| t.revoke(1600, 1));
+    refused(Refusal::Clock, 1000, |t, _| t.enrol(999, b, 600, 400, 256));
     refused(Refusal::Name, 1001, |t, _| {
         t.enrol(1001, &[0], 600, 400, 256)
     });
@@ -200,45 +393,157 @@ fn a_refusal_leaves_all_but_the_clock() {
     refused(Refusal::Twin, 1001, |t, _| {
         t.enrol(1001, &name("A.Example."), 600, 400, 256)
     });
+    refused(Refusal::Size, 1000, |t, _| t.look(&[]));
+    refused(Refusal::Format, 1000, |t, _| t.look(&query[..12]));
     refused(Refusal::NotQuery, 1000, |t, _| t.look(response));
 }
 
 #[test]
-fn words_that_no_key_uses_are_read_as_anything() {
-    let clean = day();
-    let mut table = edited(&clean, |image| {
-        image[row(1)..][WAITING..=SPARE].fill(u64::MAX);
-    });
-    let message = Draft::ordinary().signed("1.a.example.", 1000);
-    assert_eq!(table.look(&message), Ok(key(1)));
-    let answer = table.message(1000, true, &message, &[], &mut []);
-    assert_eq!(answer, Ok(key(1)));
-    assert!(table == clean);
+fn a_full_table_takes_no_more() {
+    let before = with_junk(&offices(64), &mut Random(4));
+    let mut table = before.clone();
+    let answer = table.enrol(1001, &name("new.example."), 600, 400, 256);
+    assert_eq!(answer, Err(Refusal::Full));
+    let expected = edited(&before, |words, _| words[CLOCK] = 1001);
+    assert!(is_left(&expected, &table));
 }
 
-/// The octets after a suffix and the rows after the last pair are no part of
-/// the table.
-#[test]
-fn what_is_past_the_end_changes_nothing() {
-    let mut table = edited(&day(), |image| {
-        image[row(1)..row(2)][SUFFIX + 2..].fill(u64::MAX); // 11 octets are used
-        image[row(2)..].fill(u64::MAX);
-        (2..=64).for_each(|pair| image[row(pair) + KEYS] = 0);
-    });
-    let mut theirs = table_of(day().image());
-    let (a, b) = (name(A), name("b.example."));
-    assert_eq!(table.enrol(1000, &a, 600, 400, 256), Err(Refusal::Twin));
-    let answer = table.enrol(1000, &b, 600, 400, 256);
-    let expected = second::enrol(&mut theirs, 1000, &b, 600, 400, 256);
-    assert_eq!(answer.map_err(Refusal::number), as_ours(expected));
-    assert_eq!(table_of(table.image()), theirs);
+/// A call that is done changes the clock and the fourteen words of its pair.
+fn changes_its_own(
+    before: &Table,
+    pair: u64,
+    call: impl Fn(&mut Table) -> Result<Answer, Refusal>,
+) -> Table {
+    let mut after = before.clone();
+    call(&mut after).expect("done");
+    let own = row_of(before, pair) + LIFETIME..row_of(before, pair) + ROW_WORDS;
+    for word in changed(before, &after) {
+        assert!(word == CLOCK || own.contains(&word), "{pair}: {word}");
+    }
+    assert_eq!(before.parts().1, after.parts().1);
+    after
 }
 
-/// Also the rows after the last pair: every row is looked at.
 #[test]
-fn every_row_needs_a_known_count_of_keys() {
-    let table = edited(&day(), |image| image[row(64) + KEYS] = 3);
-    assert_eq!(table.look(&[0; 12]), Err(Refusal::Table));
+fn a_call_changes_its_own_pair_alone() {
+    let clean = offices(64);
+    for before in [with_junk(&clean, &mut Random(5)), clean] {
+        for pair in 1..=64 {
+            let key = |serial: u64| format!("{serial}.{}", office(pair));
+            let send = |table: &mut Table, draft: Draft, serial: u64| {
+                let message = draft.signed(&key(serial), 1001);
+                let answer = table.message(1001, true, &message, &[5], &mut [0; 512])?;
+                assert_eq!((answer.pair, answer.serial), (pair, serial));
+                Ok(answer)
+            };
+            let issued = changes_its_own(&before, pair, |t| t.issue(1001, pair, 256));
+            let serial = issued.view().expect("a table").pairs[pair as usize - 1].next_serial - 1;
+            let own = |table: &Table, draft: Draft| {
+                changes_its_own(table, pair, |t| send(t, draft.clone(), serial))
+            };
+            changes_its_own(&issued, pair, |t| t.revoke(1001, pair));
+            own(&issued, Draft::ordinary());
+            own(&issued, Draft::deletion(&key(serial)));
+            let renewed = own(&issued, Draft::renewal(&key(serial)));
+            let adopted = own(&renewed, Draft::adoption(&key(serial + 1), &key(serial)));
+            let keys = &adopted.view().expect("a table").pairs[pair as usize - 1].keys;
+            assert!(matches!(keys, Keys::Adopted(key) if key.serial == serial + 1));
+            // BADKEY: the pair that the name leads to keeps its keys.
+            let unknown = Draft::ordinary().signed(&key(99), 1001);
+            let kept = changes_its_own(&issued, pair, |t| {
+                t.message(1001, true, &unknown, &[], &mut [0; 512])
+            });
+            assert_eq!(kept.view(), issued.view());
+        }
+        // Of no pair: the clock alone.
+        let stranger = Draft::ordinary().signed("1.a.example.", 1001);
+        for message in [stranger, Draft::ordinary().octets()] {
+            let mut after = before.clone();
+            let answer = after.message(1001, true, &message, &[], &mut [0; 512]);
+            assert_eq!(answer.expect("done").pair, 0);
+            let expected = edited(&before, |words, _| words[CLOCK] = 1001);
+            assert!(is_left(&expected, &after));
+        }
+    }
+}
+
+// ---- What has no meaning ----
+
+/// Junk changes no answer, and stays where no call of its own pair writes it.
+#[test]
+fn junk_changes_nothing_and_stays() {
+    let clean = offices(6);
+    let message = Draft::ordinary().signed(&format!("1.{}", office(2)), 1001);
+    let lone = name("lone.example.");
+    type Call<'a> = &'a dyn Fn(&mut Table, &mut [u8]) -> Result<Answer, Refusal>;
+    let calls: [Call; 6] = [
+        &|t, _| t.enrol(1001, &lone, 600, 400, 256),
+        &|t, _| t.issue(1001, 4, 512),
+        &|t, _| t.revoke(1001, 3),
+        &|t, _| t.look(&message),
+        &|t, r| t.message(1001, true, &message, &[5], r),
+        &|t, _| t.clear(1001),
+    ];
+    for (seed, call) in (0..).zip(calls.iter().cycle()).take(600) {
+        let before = with_junk(&clean, &mut Random(seed));
+        assert_eq!(before.view(), clean.view());
+        let (mut table, mut reply) = (before.clone(), [FILL; 512]);
+        let (mut expected, mut expected_reply) = (clean.clone(), [FILL; 512]);
+        let answer = call(&mut table, &mut reply);
+        assert!(answer.is_ok());
+        assert_eq!(answer, call(&mut expected, &mut expected_reply));
+        assert_eq!(reply, expected_reply);
+        assert_eq!(table.view(), expected.view());
+        // Behind the places that the call could use, and in word 2.
+        let (was, octets_were) = before.parts();
+        let (is, octets_are) = table.parts();
+        assert_eq!(was[SPARE], is[SPARE]);
+        assert_eq!(was[MAP + 7..row(0)], is[MAP + 7..row(0)]);
+        assert_eq!(was[row(7)..], is[row(7)..]);
+        assert_eq!(octets_were[128 * 7..], octets_are[128 * 7..]);
+    }
+}
+
+#[test]
+fn a_new_table_over_junk() {
+    let mut random = Random(6);
+    for turn in 0..100 {
+        let mut words = [u64::MAX; TABLE_WORDS];
+        let mut suffixes = [0xff; TABLE_OCTETS];
+        if turn > 0 {
+            words.iter_mut().for_each(|word| *word = random.word());
+            suffixes
+                .iter_mut()
+                .for_each(|octet| *octet = random.next() as u8);
+        }
+        let mut table = Table::from_parts(&words, &suffixes);
+        let late = (1 << 48) - (1 << 31);
+        assert_eq!(table.clear(late), Err(Refusal::Time));
+        assert_eq!(table.parts(), (&words, &suffixes));
+        assert_eq!(table.clear(late - 1), Ok(Answer::default()));
+        assert_eq!(table.clear(1000), Ok(Answer::default()));
+        assert_eq!(table.view(), Table::new(1000).expect("new").view());
+        let mut theirs = second::new(1000).expect("new");
+        for pair in 1..=64 {
+            let suffix = name(&office(pair));
+            let answer = table.enrol(1000, &suffix, 600, 400, 384);
+            let expected = second::enrol(&mut theirs, 1000, &suffix, 600, 400, 384);
+            assert_eq!(answer.map_err(Refusal::number), as_ours(expected));
+        }
+        assert_eq!(table_of(&table), theirs);
+    }
+}
+
+// ---- Storing, and sharing ----
+
+#[test]
+fn a_stored_table_is_lent_again() {
+    let table = with_junk(&offices(64), &mut Random(8));
+    let (words, suffixes) = table.parts();
+    let again = Table::from_parts(words, suffixes);
+    assert!(is_left(&table, &again));
+    let message = Draft::ordinary().signed(&format!("1.{}", office(2)), 1000);
+    assert_eq!(again.look(&message), Ok(key_of(2, 1)));
 }
 
 #[test]

@@ -1,27 +1,31 @@
 //! Scripts as docs/SCRIPT.md has them, run through the wrapper and compared
-//! line by line with the second reader.
+//! line by line with the second reader; and what each line leaves of the words.
 
 mod support;
 
 use luffcringle::{Answer, Refusal, Table};
 use std::fmt::Write;
 use std::path::{Path, PathBuf};
-use support::table_of;
+use support::{changed, row, row_of, table_of, with_junk, Random};
+use support::{CLOCK, COUNT, LIFETIME, MAP, ROW_WORDS};
 
 const LONGEST_LINE: usize = 200_000;
 const MOST_ROOM: usize = 65_535;
 
-/// A run through the wrapper.
+/// A run through the wrapper. With junk, what has no meaning holds something
+/// else before every line.
 struct Runner {
     table: Table,
+    junk: Option<Random>,
     line: u64,
     reply: Vec<u8>,
 }
 
 impl Runner {
-    fn new() -> Runner {
+    fn new(junk: Option<Random>) -> Runner {
         Runner {
             table: Table::new(0).expect("0 is a time"),
+            junk,
             line: 0,
             reply: vec![0; MOST_ROOM],
         }
@@ -30,11 +34,17 @@ impl Runner {
     /// What one line prints.
     fn line(&mut self, line: &[u8]) -> String {
         self.line += 1;
+        if let Some(random) = &mut self.junk {
+            self.table = with_junk(&self.table, random);
+        }
         if line == b"list" {
             return listing(&self.table);
         }
+        let before = self.table.clone();
         let fits = line.len() <= LONGEST_LINE;
-        match fits.then(|| self.call(line)).flatten() {
+        let result = fits.then(|| self.call(line)).flatten();
+        check_kept(self.line, line, &before, &self.table, result);
+        match result {
             Some(result) => self.printed(result),
             None => format!("bad line {}\n", self.line),
         }
@@ -46,10 +56,7 @@ impl Runner {
         let words: Vec<&str> = line.split(' ').collect();
         let table = &mut self.table;
         Some(match words[..] {
-            ["new", time] => Table::new(number(time)?).map(|new| {
-                *table = new;
-                Answer::default()
-            }),
+            ["new", time] => table.clear(number(time)?),
             ["enrol", time, suffix, lifetime, fresh, algorithm] => table.enrol(
                 number(time)?,
                 &octets(suffix)?,
@@ -83,6 +90,49 @@ impl Runner {
         let (length, error, skew) = (answer.length, answer.error, answer.skew);
         let (pair, serial) = (answer.pair, answer.serial);
         format!("{number} {length} {error} {skew} {pair} {serial} {reply}\n")
+    }
+}
+
+/// A line leaves what it may not change: TABLE all, another refusal all but the
+/// clock, and a call that is done all but the clock and its own words.
+fn check_kept(
+    at: u64,
+    line: &[u8],
+    before: &Table,
+    after: &Table,
+    result: Option<Result<Answer, Refusal>>,
+) {
+    let call = line.split(|&octet| octet == b' ').next();
+    let enrolled = match (call, result) {
+        (Some(b"enrol"), Some(Ok(answer))) => answer.pair as usize,
+        _ => 0,
+    };
+    let octets = |table: &Table| table.parts().1[128 * enrolled..].to_vec();
+    assert!(octets(before) == octets(after), "line {at}: octets");
+    for word in changed(before, after) {
+        let is_own = match (call, result) {
+            (_, None | Some(Err(Refusal::Table))) | (Some(b"look"), _) => false,
+            (_, Some(Err(_))) => word == CLOCK,
+            (Some(b"new"), _) => word <= COUNT,
+            (Some(b"enrol"), _) => {
+                word <= COUNT
+                    || (MAP..MAP + enrolled).contains(&word)
+                    || (row(0)..row(enrolled)).contains(&word)
+            }
+            (_, Some(Ok(answer))) => word == CLOCK || is_of_pair(before, answer.pair, word),
+        };
+        assert!(is_own, "line {at}: word {word}");
+    }
+}
+
+/// Whether it is one of the fourteen words that a call may change of the pair.
+/// A message that no key signed has no pair in its answer; the pair that its
+/// TSIG's name leads to keeps its keys, but not words without meaning.
+fn is_of_pair(table: &Table, pair: u64, word: usize) -> bool {
+    let is_in = |pair| (LIFETIME..ROW_WORDS).contains(&word.wrapping_sub(row_of(table, pair)));
+    match pair {
+        0 => (1..=table.parts().0[COUNT]).any(is_in),
+        pair => is_in(pair),
     }
 }
 
@@ -121,13 +171,15 @@ fn hex(octets: &[u8]) -> String {
 
 fn listing(table: &Table) -> String {
     let mut out = Vec::new();
-    second::script::print_listing(&table_of(table.image()), &mut out);
+    second::script::print_listing(&table_of(table), &mut out);
     String::from_utf8(out).expect("plain text")
 }
 
-/// Both readers, line by line and table by table; answers with what both print.
+/// Both readers, line by line and table by table, ours with junk and without;
+/// answers with what all print.
 fn agree(script: &[u8]) -> String {
-    let mut ours = Runner::new();
+    let mut ours = Runner::new(None);
+    let mut junk = Runner::new(Some(Random(1)));
     let mut theirs = second::script::Runner::new();
     let mut all = String::new();
     let script = script.strip_suffix(b"\n").unwrap_or(script);
@@ -137,7 +189,9 @@ fn agree(script: &[u8]) -> String {
         theirs.line(line, &mut expected);
         let at = ours.line;
         assert_eq!(printed.as_bytes(), expected, "line {at}");
-        assert_eq!(&table_of(ours.table.image()), theirs.table(), "line {at}");
+        assert_eq!(&table_of(&ours.table), theirs.table(), "line {at}");
+        assert_eq!(junk.line(line), printed, "line {at}, with junk");
+        assert_eq!(junk.table.view(), ours.table.view(), "line {at}, with junk");
         all.push_str(&printed);
     }
     all

@@ -8,7 +8,6 @@ use native.Mathlib.Omega.{arith}
 use borrow.Author.Tests.{ltb-true, lt-ltb, ne-eqb}
 use lib.Dec.{ltb, eqb}
 use lib.ListN.{length, replicate}
-use lib.Seq.{getD-set-same}
 use Rattle.model.specs.declared.Algorithm.{Algorithm}
 use Rattle.model.specs.declared.Algorithm.the-variants.{Sha256, Sha384, Sha512}
 use Rattle.model.specs.declared.Named.the-variants.{Known}
@@ -16,7 +15,6 @@ use Rattle.model.specs.declared.Key.{Key}
 use Rattle.model.specs.declared.Keys.{Keys}
 use Rattle.model.specs.declared.Keys.the-variants.{Empty, Adopted, Renewing}
 use Rattle.model.specs.declared.Pair.{Pair}
-use Rattle.model.specs.declared.Table.{Table}
 use Rattle.model.specs.declared.Heard.{Heard}
 use Rattle.model.specs.declared.Decision.{Decision}
 use Rattle.model.specs.declared.Decision.the-variants.{Failed, Renews}
@@ -30,14 +28,13 @@ use Rattle.model.specs.Names.{lowerOf, sameName, wireName, algorithmName, algor
 use Rattle.model.specs.Tsig.{anyClass}
 use Rattle.model.specs.Tkey.{Old, tkeyType, keyType, modeOf, namesOld, oldOf}
 use Rattle.model.specs.Pairs.{withKeys, made, revokedKey, renewedKeys, renewed}
-use Rattle.model.specs.Tables.{noPair, pairAt, withPair, withClock, namesOf, tableRules}
+use Rattle.model.specs.Tables.{Table, suffixAt, pairAt, withPair, withClock, tableRules}
 use Rattle.model.specs.Judging.{formErr, servFail, badKey, badAlg, badTime, adoptedOf, waitingOf, isKey, signerOf, heldSuffix, heldPair, goodTimes, goodInterval, canRenew, renewalOf, changed}
 use Rattle.model.specs.Replies.{heading, recordOctets, tkeyRecord, granted, echoed, renewedReply, replyOf, errorOf}
 use Rattle.model.specs.Calls.{holderAt}
 use Rattle.model.specs.Resolver.{nameOf, oldKey, usable, adoptedKey, offeredKey, closed, opened, TkeyAnswer, offeredBy, renewedIn, rootOr, requestOctets, renewalOctets, writtenRenewal, readReply}
 use Rattle.model.specs.Exchange.{Ask, renewal, written, replyOr, Ordinary, Turn, writingIn, requestIn, Sides, exchanged, Clean, Agree, InTime, Room}
 use Rattle.model.proofs.Tests.{left, by-check, by-known}
-use Rattle.model.proofs.Rows.{suffix}
 use Rattle.octets.proofs.Back.{put-front}
 use Rattle.printed.proofs.Names.{algorithm-wire, key-wire}
 use Rattle.printed.proofs.Records.{KeyEntry, key-read}
@@ -46,10 +43,10 @@ use Rattle.agreement.proofs.Asked.{Request, keyed, keyOf, stampedBy, tk
 use Rattle.agreement.proofs.Answered.{heading-octets, echo, Answer, answerEntry, replyBy}
 use Rattle.agreement.proofs.Decided.{decided}
 use Rattle.agreement.proofs.Exchanged.{sceneOf, Posed, decision, heard-is, exchanged-is, by-decision, decision-is, serves, sized}
-use Rattle.agreement.proofs.Found.{same-refl}
+use Rattle.model.proofs.NameLaws.{same-refl}
 use Rattle.agreement.proofs.Row.{Holds, adopted-held, next-serial, adopted-serial, suffix-wire, suffix-short}
 use Rattle.agreement.proofs.Served.{is-key}
-use Rattle.agreement.proofs.Steps.{inside, Scene, stampFor, readIn, asksIn, replyFor, sidesFor, Fine, facts, hears, accepts, refused, failed}
+use Rattle.agreement.proofs.Steps.{pair-then, enrolled-then, key-then, Scene, stampFor, readIn, asksIn, replyFor, sidesFor, Fine, facts, hears, accepts, refused, failed}
 use Rattle.agreement.proofs.Writes.{Renewal, wrote-renewal, adopted-is}
 
 -- A key was granted to both: it waits, the adopted key is as it was but for its partial time, and the first adoption is signed with that.
@@ -139,11 +136,11 @@ module _ (b : Sides) (i : ℕ) (e : Agree i b) (x : Turn) (asked : List ℕ) (g 
     new = made p (x .time) g
 
     abbrev newName : List ℕ
-    newName = keyName (p .«next_serial») (suffix t i)
+    newName = keyName (p .«next_serial») (suffixAt t i)
 
     new-wire : wireName newName ≡ true
     new-wire =
-        key-wire (p .«next_serial») (suffix t i) (next-serial t sound i (e .enrolled) a (row .adopted)) spare (suffix-short t sound i (e .enrolled)) (suffix-wire t sound i (e .enrolled))
+        key-wire (p .«next_serial») (suffixAt t i) (next-serial t sound i (e .enrolled) a (row .adopted)) spare (suffix-short t sound i (e .enrolled)) (suffix-wire t sound i (e .enrolled))
 
     abbrev answer : TkeyAnswer
     answer =
@@ -216,16 +213,16 @@ module _ (b : Sides) (i : ℕ) (e : Agree i b) (x : Turn) (asked : List ℕ) (g 
         go (Renewing y z) f = refl
 
     renews : Fine scene (Renews g)
-    unfolding changed errorOf renewed withKeys revokedKey made opened closed adoptedKey withPair withClock pairAt namesOf
+    unfolding changed errorOf renewed withKeys revokedKey made opened closed adoptedKey
     renews =
         record {
           ends = λ z.
-              let there = getD-set-same (t .pairs) i (renewed p (x .time) g) noPair (inside t i a (row .adopted)) in
+              let there = pair-then t (x .time) i (renewed p (x .time) g) (e .enrolled) in
               rw (hears scene (Renews g) reply refl replies z ∙ offers)
               (record {
-                enrolled = e .enrolled;
-                adopted = rw (there, adopted-now, adopted-is s k (wrote-it .holds) .served) (record { name = row .same .name; algorithm = row .same .algorithm });
-                offered = rw (there, waiting-now, offered-is) (record { name = rw name-is (same-refl newName); algorithm = refl });
+                enrolled = enrolled-then t (x .time) i _ (e .enrolled);
+                adopted = rw (there, adopted-now, adopted-is s k (wrote-it .holds) .served) (key-then t (x .time) i (renewed p (x .time) g) (record { name = row .same .name; algorithm = row .same .algorithm }));
+                offered = rw (there, waiting-now, offered-is) (key-then t (x .time) i (renewed p (x .time) g) (record { name = rw name-is (same-refl newName); algorithm = refl }));
               });
         }
 
@@ -235,7 +232,7 @@ module _ (b : Sides) (i : ℕ) (e : Agree i b) (x : Turn) (asked : List ℕ) (g 
       → Fine scene (renewalOf (heldSuffix (holderAt t i)) (heldPair (holderAt t i)) a′ (x .offer) (keyOf (keyed lent key)) (tkeyIn q))
   unfolding renewalOf canRenew badKey formErr badAlg badTime servFail heldSuffix heldPair holderAt
   by-mode a′ _ =
-      by-check (Fine scene) Failed _ (failed scene e _ (λ z. omega arith)) (isKey (nameOf k) (algorithmName (k .algorithm)) (suffix t i) a′) λ _.
+      by-check (Fine scene) Failed _ (failed scene e _ (λ z. omega arith)) (isKey (nameOf k) (algorithmName (k .algorithm)) (suffixAt t i) a′) λ _.
       by-known (Fine scene) Failed _ (failed scene e _ (λ z. omega arith)) (algorithmNamed (algorithmName g)) λ g′ is.
       by-check (Fine scene) Failed _ (failed scene e _ (λ z. omega arith)) (goodInterval (tkeyIn q)) λ _.
       by-check (Fine scene) Failed _ (failed scene e _ (λ z. omega arith)) (canRenew p (x .offer)) λ can.
@@ -302,9 +299,9 @@ module _ (b : Sides) (i : ℕ) (e : Agree i b) (x : Turn) (asked : List ℕ) (g 
         ∙ ap (λ (r : Resolver). record { table = withPair (withClock t (x .time)) i (renewed p (x .time) g); resolver = r }) (hears scene (Renews g) (reply spare) refl (replies spare) hears-it ∙ offers spare)
 
     granted-both : Granted i b (exchanged b x) g a
-    unfolding renewed withKeys renewedKeys revokedKey made withPair withClock pairAt
+    unfolding renewed withKeys renewedKeys revokedKey made
     granted-both =
-        let there = getD-set-same (t .pairs) i (renewed p (x .time) g) noPair (inside t i a (row .adopted)) in
+        let there = pair-then t (x .time) i (renewed p (x .time) g) (e .enrolled) in
         let agrees : Agree i (exchanged b x) = renewal-agrees clean in
         rw sides
         (record {

@@ -1,14 +1,14 @@
 -- Demand 2: over any run from a new table. Assumes nothing.
 use mathlib.Core.Path.{_≡_, refl, sym, ap, ap₂, _∙_, subst}
-use mathlib.Core.Bool.{Bool, true, false, cond}
+use mathlib.Core.Bool.{Bool, true, false}
 use mathlib.Core.Option.{Option, none, some, Option·none-ne-some, Option·some-injective}
 use mathlib.Core.Logic.{_⊎_, inl, inr}
-use mathlib.Core.List.{List, [], _∷_, List·Memᴰ, List·Memᴰ·head, List·Memᴰ·tail}
-use Prim.Native.Nat.{ℕ, suc, _+_, _≤_, _<_}
+use mathlib.Core.List.{List, [], _∷_, List·Memᴰ, List·Memᴰ·head, List·Memᴰ·tail, List·Memᴰ·not-nil}
+use Prim.Native.Nat.{ℕ, suc, _^_, _≤_, _<_}
 use native.Mathlib.Nat.{le-refl}
 use native.Mathlib.Omega.{arith}
 use lib.Dec.{ltb}
-use lib.ListN.{length, length-replicate}
+use lib.ListN.{length, getD, set}
 use lib.Seq.{getD-set-same}
 use borrow.Author.Tests.{ltb-true, lt-ltb}
 use Rattle.model.specs.declared.Algorithm.{Algorithm}
@@ -16,7 +16,6 @@ use Rattle.model.specs.declared.Key.{Key}
 use Rattle.model.specs.declared.Keys.{Keys}
 use Rattle.model.specs.declared.Keys.the-variants.{Empty, Adopted, Renewing}
 use Rattle.model.specs.declared.Pair.{Pair}
-use Rattle.model.specs.declared.Table.{Table}
 use Rattle.model.specs.declared.Decision.{Decision}
 use Rattle.model.specs.declared.Decision.the-variants.{Renews, Adopts}
 use Rattle.model.specs.Octets.{reads}
@@ -24,197 +23,192 @@ use Rattle.model.specs.Names.{sameName, keyName}
 use Rattle.model.specs.Messages.{Message, readMessage}
 use Rattle.model.specs.Tsig.{signature}
 use Rattle.model.specs.Pairs.{withKeys, made, renewedKeys, renewed, adoptedKeys, adopted}
-use Rattle.model.specs.Tables.{noPair, pairAt, withPair, withClock, namesOf, namesRule, allFrom, clockRule, tableRules}
+use Rattle.model.specs.Tables.{Row, Table, noRow, rowAt, suffixAt, pairAt, withClock, withPair, namesOf, distinct, clockRule, tableRules}
 use Rattle.model.specs.Judging.{Holder, heldSuffix, heldPair, adoptedOf, waitingOf, judge, changed}
 use Rattle.model.specs.Replies.{granted, renewedReply, replyOf}
-use Rattle.model.specs.Calls.{TIME, SIZE, OFFER, NOTQUERY, ROOM, Result, refusal, unchanged, timeFits, emptyTable, newTable, freshPair, sizeOk, offerOk, roomFor, replyTo, replied, timeOf, signedBy, octetsOwner, ownerOf, holderAt, served, called}
-use Rattle.model.specs.Runs.{Operation, enrol, call, operated, operatedAll, Has, keyRaised, keyMade, listed, namesMade, NoneSame, Distinct}
+use Rattle.model.specs.Calls.{TIME, SIZE, OFFER, NOTQUERY, ROOM, Result, refusal, unchanged, timeFits, emptyTable, newTable, sizeOk, offerOk, roomFor, replyTo, replied, timeOf, signedBy, octetsOwner, ownerOf, holderAt, served, called}
+use Rattle.model.specs.Runs.{Operation, enrol, call, operated, operatedAll, Has, nextOf, suffixBy, suffixOf, keyRaised, keyMade, listed, namesMade, NoneSame, Distinct}
 use Rattle.model.proofs.CallLaws.{passes-first, message-size, message-offer, message-response, message-room, message-done}
 use Rattle.guarantees.specs.Freshness.{after, madeBy, Ask, asks, Decides, Renewed, AtOnce, Demand2}
-use Rattle.model.proofs.Tests.{both, by-check}
+use Rattle.model.proofs.Tests.{both, not-so, by-check}
 use Rattle.model.proofs.Decisions.{Grantable, Allows, allows}
-use Rattle.model.proofs.NameLaws.{same-sym}
-use Rattle.model.proofs.Rows.{Sized, suffix, few}
-use Rattle.guarantees.proofs.Made.{Used, Fresh, Grows, fresh-back, Known, Origin, Event, owner-below, call-made}
+use Rattle.model.proofs.NameLaws.{same-sym, key-same}
+use Rattle.model.proofs.Rows.{at-member, set-has, same-next}
+use Rattle.guarantees.proofs.Made.{Held, Event, New, new-name, raised, next-fits, next-row, owner-enrolled, call-made}
 use Rattle.guarantees.proofs.Enrolment.{enrol-made}
 
--- ── Runs ────────────────────────────────────────────────────────────────────────────────────────────────────────────
+-- ── One operation ───────────────────────────────────────────────────────────────────────────────────────────────────
 
-operation-made : (t : Table) (o : Operation) → Sized t → Event t (operated t o .table) (keyMade t o)
-unfolding operated keyMade freshPair
-operation-made t (enrol time s lifetime fresh algorithm) z = enrol-made t time s lifetime fresh z algorithm
-operation-made t (call c) z = call-made t c z
+pub operation-made : (t : Table) (o : Operation) → tableRules t ≡ true → Event t (operated t o .table) (keyMade t o)
+unfolding operated suffixOf keyMade
+operation-made t (enrol time s lifetime fresh algorithm) r = enrol-made s lifetime fresh algorithm t time r
+operation-made t (call c) r = call-made t c r
+
+pub operation-new : (t : Table) (o : Operation) (name : List ℕ) → keyMade t o ≡ some name → New t (operated t o .table) name
+unfolding keyMade
+operation-new t o name e = new-name t (operated t o .table) (suffixOf t o) name e
+
+-- ── Names that were made, and names that were not ───────────────────────────────────────────────────────────────────
+
+-- A serial that is below the next one of its suffix, and one that is not. (A serial has at most 32 bits, else a label would not hold it.)
+record Used (t : Table) (name : List ℕ) : Type 0 where
+  suffix : List ℕ
+  serial : ℕ
+  is : name ≡ keyName serial suffix
+  fits : serial < 2 ^ 32
+  given : serial < nextOf t suffix
+
+record Fresh (t : Table) (name : List ℕ) : Type 0 where
+  suffix : List ℕ
+  serial : ℕ
+  is : name ≡ keyName serial suffix
+  fits : serial < 2 ^ 32
+  left : nextOf t suffix ≤ serial
+
+-- They are not the same, compared without regard to case.
+never-same : (t : Table) (a b : List ℕ) → Used t a → Fresh t b → sameName a b ≡ false
+unfolding nextOf
+never-same t a b u f = not-so (sameName a b) λ e.
+    let k = key-same (u .serial) (f .serial) (u .suffix) (f .suffix) (u .fits) (f .fits) (ap₂ sameName (sym (u .is)) (sym (f .is)) ∙ e) in
+    let n : nextOf t (u .suffix) ≡ nextOf t (f .suffix) = same-next (t .rows) _ (u .suffix) (f .suffix) (k .1) in
+    let s : u .serial ≡ f .serial = k .0 in
+    omega (arith, u .given, f .left)
+
+used-then : (t u : Table) (made : Option (List ℕ)) (n : List ℕ) → Event t u made → Used t n → Used u n
+used-then t u made n v w = record { suffix = w .suffix; serial = w .serial; is = w .is; fits = w .fits; given = omega (arith, w .given, v .onward (w .suffix)) }
+
+fresh-before : (t u : Table) (made : Option (List ℕ)) (n : List ℕ) → Event t u made → Fresh u n → Fresh t n
+fresh-before t u made n v w = record { suffix = w .suffix; serial = w .serial; is = w .is; fits = w .fits; left = omega (arith, w .left, v .onward (w .suffix)) }
+
+-- A name that is made was fresh before, and is used then.
+module _ (t u : Table) (n : List ℕ) (r : tableRules u ≡ true) (w : New t u n) where
+  was-fresh : Fresh t n
+  was-fresh =
+      let b : nextOf u (w .suffix) ≤ 2 ^ 32 = next-fits u r (w .suffix) in
+      record { suffix = w .suffix; serial = nextOf t (w .suffix); is = w .is; fits = omega (arith, w .more); left = le-refl _ }
+
+  is-used : Used u n
+  is-used =
+      let b : nextOf u (w .suffix) ≤ 2 ^ 32 = next-fits u r (w .suffix) in
+      record { suffix = w .suffix; serial = nextOf t (w .suffix); is = w .is; fits = omega (arith, w .more); given = w .more }
+
+-- ── Runs ────────────────────────────────────────────────────────────────────────────────────────────────────────────
 
 abbrev AllFresh : Table → List (List ℕ) → Type 0
 AllFresh t [] = Unit {0}
 AllFresh t (n ∷ ns) = Fresh t n × AllFresh t ns
 
-all-back : {t u : Table} (ns : List (List ℕ)) → Grows t u → AllFresh u ns → AllFresh t ns
-all-back [] g f = tt
-all-back (n ∷ ns) g f = (fresh-back n g (f .0), all-back ns g (f .1))
+abbrev AllUsed : Table → List (List ℕ) → Type 0
+AllUsed t [] = Unit {0}
+AllUsed t (n ∷ ns) = Used t n × AllUsed t ns
 
-none-same : (u : Table) (n : List ℕ) (ns : List (List ℕ)) → Used u n → AllFresh u ns → NoneSame n ns
-none-same u n [] w f = tt
-none-same u n (m ∷ ns) w f =
-    (ap (λ (x : List ℕ). sameName x m) (w .is) ∙ f .0 (w .row) (w .serial) (w .enrolled) (w .given), none-same u n ns w (f .1))
+all-before : (t u : Table) (made : Option (List ℕ)) (ns : List (List ℕ)) → Event t u made → AllFresh u ns → AllFresh t ns
+all-before t u made [] v f = tt
+all-before t u made (n ∷ ns) v f = (fresh-before t u made n v (f .0), all-before t u made ns v (f .1))
 
-all-fresh : (t : Table) (os : List Operation) → Sized t → AllFresh t (namesMade t os)
+none-same : (t : Table) (n : List ℕ) (ns : List (List ℕ)) → Used t n → AllFresh t ns → NoneSame n ns
+none-same t n [] u f = tt
+none-same t n (m ∷ ns) u f = (never-same t n m u (f .0), none-same t n ns u (f .1))
+
+fresh-none : (t : Table) (n : List ℕ) (ns : List (List ℕ)) → Fresh t n → AllUsed t ns → NoneSame n ns
+fresh-none t n [] f u = tt
+fresh-none t n (m ∷ ns) f u = (same-sym n m ∙ never-same t m n (u .0) f, fresh-none t n ns f (u .1))
+
+-- all names that a run makes are fresh before it; no two are the same; all are used after it
+all-fresh : (t : Table) (os : List Operation) → tableRules t ≡ true → AllFresh t (namesMade t os)
 unfolding namesMade
-all-fresh t [] z = tt
-all-fresh t (o ∷ os) z = go (keyMade t o) (operation-made t o z) (all-fresh (operated t o .table) os)
+all-fresh t [] r = tt
+all-fresh t (o ∷ os) r = go (keyMade t o) refl (operation-made t o r) (all-fresh (operated t o .table) os)
   where
     u : Table
     u = operated t o .table
 
-    go : (made : Option (List ℕ)) → Event t u made → (Sized u → AllFresh u (namesMade u os)) → AllFresh t (listed made (namesMade u os))
-    go none v f = all-back (namesMade u os) (v .grows) (f (v .sized))
-    go (some n) v f = (v .fresh n refl, all-back (namesMade u os) (v .grows) (f (v .sized)))
+    go : (made : Option (List ℕ)) → keyMade t o ≡ made → Event t u made → (tableRules u ≡ true → AllFresh u (namesMade u os)) → AllFresh t (listed made (namesMade u os))
+    go none e v f = all-before t u none (namesMade u os) v (f (v .rules))
+    go (some n) e v f = (was-fresh t u n (v .rules) (operation-new t o n e), all-before t u (some n) (namesMade u os) v (f (v .rules)))
 
--- from any table whose arrays have their sizes
-distinct : (t : Table) (os : List Operation) → Sized t → Distinct (namesMade t os)
+all-distinct : (t : Table) (os : List Operation) → tableRules t ≡ true → Distinct (namesMade t os)
 unfolding namesMade
-distinct t [] z = tt
-distinct t (o ∷ os) z = go (keyMade t o) (operation-made t o z) (distinct (operated t o .table) os)
+all-distinct t [] r = tt
+all-distinct t (o ∷ os) r = go (keyMade t o) refl (operation-made t o r) (all-distinct (operated t o .table) os)
   where
     u : Table
     u = operated t o .table
 
-    go : (made : Option (List ℕ)) → Event t u made → (Sized u → Distinct (namesMade u os)) → Distinct (listed made (namesMade u os))
-    go none v f = f (v .sized)
-    go (some n) v f = (none-same u n (namesMade u os) (v .used n refl) (all-fresh u os (v .sized)), f (v .sized))
+    go : (made : Option (List ℕ)) → keyMade t o ≡ made → Event t u made → (tableRules u ≡ true → Distinct (namesMade u os)) → Distinct (listed made (namesMade u os))
+    go none e v f = f (v .rules)
+    go (some n) e v f = (none-same u n (namesMade u os) (is-used t u n (v .rules) (operation-new t o n e)) (all-fresh u os (v .rules)), f (v .rules))
 
-new-sized : (time : ℕ) → Sized (newTable time .table)
-unfolding newTable emptyTable unchanged
-new-sized time = by-check (λ (r : Result). Sized (r .table)) (unchanged (emptyTable 0)) TIME (sizes 0) (timeFits time) (λ e. sizes time)
+used-on : (t : Table) (os : List Operation) (n : List ℕ) → tableRules t ≡ true → Used t n → Used (operatedAll t os) n
+unfolding operatedAll
+used-on t [] n r w = w
+used-on t (o ∷ os) n r w = let v = operation-made t o r in used-on (operated t o .table) os n (v .rules) (used-then t (operated t o .table) (keyMade t o) n v w)
+
+all-used : (t : Table) (os : List Operation) → tableRules t ≡ true → AllUsed (operatedAll t os) (namesMade t os)
+unfolding operatedAll namesMade
+all-used t [] r = tt
+all-used t (o ∷ os) r = go (keyMade t o) refl (operation-made t o r) (all-used (operated t o .table) os)
   where
-    sizes : (k : ℕ) → Sized (emptyTable k)
-    sizes k = record { octets = length-replicate {A = ℕ} 8192 0; sizes = length-replicate {A = ℕ} 64 0; rows = length-replicate 64 noPair }
+    u : Table
+    u = operated t o .table
+
+    go : (made : Option (List ℕ)) → keyMade t o ≡ made → Event t u made → (tableRules u ≡ true → AllUsed (operatedAll u os) (namesMade u os)) → AllUsed (operatedAll u os) (listed made (namesMade u os))
+    go none e v f = f (v .rules)
+    go (some n) e v f = (used-on u os n (v .rules) (is-used t u n (v .rules) (operation-new t o n e)), f (v .rules))
+
+pub run-rules : (t : Table) (os : List Operation) → tableRules t ≡ true → tableRules (operatedAll t os) ≡ true
+unfolding operatedAll
+run-rules t [] r = r
+run-rules t (o ∷ os) r = run-rules (operated t o .table) os (operation-made t o r .rules)
 
 -- ── Every key was made ──────────────────────────────────────────────────────────────────────────────────────────────
 
-grows-all : (t : Table) (os : List Operation) → Sized t → Grows t (operatedAll t os)
-unfolding operatedAll
-grows-all t [] z = record { counts = le-refl _; suffixes = λ i h. refl; serials = λ i h. le-refl _ }
-grows-all t (o ∷ os) z = go (operation-made t o z) (grows-all (operated t o .table) os)
-  where
-    u : Table
-    u = operated t o .table
-
-    go : Event t u (keyMade t o) → (Sized u → Grows u (operatedAll u os)) → Grows t (operatedAll u os)
-    go v f =
-        let a : t .count ≤ u .count = v .grows .counts in
-        let g = f (v .sized) in
-        record {
-          counts = omega (arith, g .counts);
-          suffixes = λ i h. g .suffixes i (omega arith) ∙ v .grows .suffixes i h;
-          serials = λ i h. omega (arith, v .grows .serials i h, g .serials i (omega arith));
-        }
-
--- a key of row i after a run: the row had a key of that serial at the start, or the run made its name
-abbrev Comes : Table → List Operation → ℕ → Key → Type 0
-Comes t os i k =
-    ((i < t .count) × Known (pairAt t i .keys) k) ⊎ List·Memᴰ (keyName (k .serial) (suffix (operatedAll t os) i)) (namesMade t os)
-
-comes : (t : Table) (os : List Operation) → Sized t → (i : ℕ) → i < operatedAll t os .count → (k : Key) → Has (pairAt (operatedAll t os) i .keys) k → Comes t os i k
+-- a key after a run: the table had one of that serial and suffix, or the run made its name
+comes : (t : Table) (os : List Operation) → tableRules t ≡ true → (s : List ℕ) (n x : ℕ) → Held (operatedAll t os) s n x → Held t s n x ⊎ List·Memᴰ (keyName n s) (namesMade t os)
 unfolding operatedAll namesMade
-comes t [] z i h k q = inl (h, (k, q, refl))
-comes t (o ∷ os) z i h k q = go (keyMade t o) (operation-made t o z) (λ w. comes (operated t o .table) os w i h k q)
+comes t [] r s n x h = inl h
+comes t (o ∷ os) r s n x h = go (keyMade t o) (operation-made t o r) (λ q. comes (operated t o .table) os q s n x h)
   where
     u : Table
     u = operated t o .table
 
-    last : Table
-    last = operatedAll u os
-
-    later : (made : Option (List ℕ)) → List·Memᴰ (keyName (k .serial) (suffix last i)) (namesMade u os) → List·Memᴰ (keyName (k .serial) (suffix last i)) (listed made (namesMade u os))
+    later : (made : Option (List ℕ)) → List·Memᴰ (keyName n s) (namesMade u os) → List·Memᴰ (keyName n s) (listed made (namesMade u os))
     later none m = m
-    later (some n) m = List·Memᴰ·tail m
+    later (some y) m = List·Memᴰ·tail m
 
-    first : (made : Option (List ℕ)) → made ≡ some (keyName (k .serial) (suffix last i)) → List·Memᴰ (keyName (k .serial) (suffix last i)) (listed made (namesMade u os))
+    first : (made : Option (List ℕ)) → made ≡ some (keyName n s) → List·Memᴰ (keyName n s) (listed made (namesMade u os))
     first none e = absurd (Option·none-ne-some _ e)
-    first (some n) e = List·Memᴰ·head (sym (Option·some-injective n _ e))
+    first (some y) e = List·Memᴰ·head (sym (Option·some-injective y _ e))
 
-    go : (made : Option (List ℕ)) → Event t u made → (Sized u → Comes u os i k) → ((i < t .count) × Known (pairAt t i .keys) k) ⊎ List·Memᴰ (keyName (k .serial) (suffix last i)) (listed made (namesMade u os))
-    go made v f = by-rest (f (v .sized))
+    go : (made : Option (List ℕ)) → Event t u made → (tableRules u ≡ true → Held u s n x ⊎ List·Memᴰ (keyName n s) (namesMade u os)) → Held t s n x ⊎ List·Memᴰ (keyName n s) (listed made (namesMade u os))
+    go made v f = by-rest (f (v .rules))
       where
-        by-origin : i < u .count → (j : Key) → j .serial ≡ k .serial → Origin t u made i j → ((i < t .count) × Known (pairAt t i .keys) k) ⊎ List·Memᴰ (keyName (k .serial) (suffix last i)) (listed made (namesMade u os))
-        by-origin b j e (inl w) = inl (w .0, (w .1 .0, w .1 .1, w .1 .2 ∙ e))
-        by-origin b j e (inr w) =
-            inr (first made (w ∙ ap₂ (λ (n : ℕ) (x : List ℕ). some (keyName n x)) e (sym (grows-all u os (v .sized) .suffixes i b))))
+        by-origin : Held t s n x ⊎ (made ≡ some (keyName n s)) → Held t s n x ⊎ List·Memᴰ (keyName n s) (listed made (namesMade u os))
+        by-origin (inl w) = inl w
+        by-origin (inr e) = inr (first made e)
 
-        by-rest : Comes u os i k → ((i < t .count) × Known (pairAt t i .keys) k) ⊎ List·Memᴰ (keyName (k .serial) (suffix last i)) (listed made (namesMade u os))
-        by-rest (inl w) = by-origin (w .0) (w .1 .0) (w .1 .2) (v .origin i (w .0) (w .1 .0) (w .1 .1))
+        by-rest : Held u s n x ⊎ List·Memᴰ (keyName n s) (namesMade u os) → Held t s n x ⊎ List·Memᴰ (keyName n s) (listed made (namesMade u os))
+        by-rest (inl w) = by-origin (v .origin s n x w)
         by-rest (inr m) = inr (later made m)
 
-new-empty : (time : ℕ) → newTable time .table .count ≡ 0
+new-empty : (time : ℕ) → newTable (emptyTable 0) time .table .rows ≡ []
 unfolding newTable emptyTable unchanged
-new-empty time = by-check (λ (r : Result). r .table .count ≡ 0) (unchanged (emptyTable 0)) TIME refl (timeFits time) (λ e. refl)
+new-empty time = by-check (λ (r : Result). r .table .rows ≡ []) (unchanged (emptyTable 0)) TIME refl (timeFits time) (λ e. refl)
 
-every-key : (time : ℕ) (os : List Operation) (i : ℕ) → i < after time os .count → (k : Key) → Has (pairAt (after time os) i .keys) k → List·Memᴰ (keyName (k .serial) (suffix (after time os) i)) (madeBy time os)
-every-key time os i h k q = go (comes (newTable time .table) os (new-sized time) i h k q)
-  where
-    t : Table
-    t = newTable time .table
-
-    go : Comes t os i k → List·Memᴰ (keyName (k .serial) (suffix (operatedAll t os) i)) (namesMade t os)
-    go (inl w) = let z : t .count ≡ 0 = new-empty time in absurd (omega (arith, w .0))
-    go (inr m) = m
-
--- ── The rules are kept ──────────────────────────────────────────────────────────────────────────────────────────────
-
-new-rules : (time : ℕ) → tableRules (newTable time .table) ≡ true
-unfolding newTable emptyTable unchanged tableRules namesOf namesRule allFrom clockRule timeFits
+new-rules : (time : ℕ) → tableRules (newTable (emptyTable 0) time .table) ≡ true
+unfolding newTable emptyTable unchanged tableRules namesOf distinct clockRule timeFits
 new-rules time =
     by-check (λ (r : Result). tableRules (r .table) ≡ true) (unchanged (emptyTable 0)) TIME refl (ltb time 0xffff_8000_0000) λ e.
     let h : time < 0xffff_8000_0000 = ltb-true _ _ e in
     both _ _ (lt-ltb time 0x1_0000_0000_0000 (omega arith)) refl
 
--- What a run leaves: arrays of their sizes, and the rules kept.
-run-sized : (t : Table) (os : List Operation) → Sized t → Sized (operatedAll t os)
-unfolding operatedAll
-run-sized t [] z = z
-run-sized t (o ∷ os) z = run-sized (operated t o .table) os (operation-made t o z .sized)
-
-run-rules : (t : Table) (os : List Operation) → Sized t → tableRules t ≡ true → tableRules (operatedAll t os) ≡ true
-unfolding operatedAll
-run-rules t [] z r = r
-run-rules t (o ∷ os) z r = let v = operation-made t o z in run-rules (operated t o .table) os (v .sized) (v .rules r)
-
--- ── Names that were made stay used ──────────────────────────────────────────────────────────────────────────────────
-
-used-later : {t u : Table} {n : List ℕ} → Grows t u → Used t n → Used u n
-used-later {t} {u} {n} g w =
-    let c : t .count ≤ u .count = g .counts in
-    let e : w .row < t .count = w .enrolled in
-    record {
-      row = w .row;
-      serial = w .serial;
-      enrolled = omega arith;
-      given = omega (arith, w .given, g .serials (w .row) (w .enrolled));
-      is = w .is ∙ ap (keyName (w .serial)) (sym (g .suffixes (w .row) (w .enrolled)));
-    }
-
-abbrev AllUsed : Table → List (List ℕ) → Type 0
-AllUsed t [] = Unit {0}
-AllUsed t (n ∷ ns) = Used t n × AllUsed t ns
-
-all-used : (t : Table) (os : List Operation) → Sized t → AllUsed (operatedAll t os) (namesMade t os)
-unfolding operatedAll namesMade
-all-used t [] z = tt
-all-used t (o ∷ os) z = go (keyMade t o) (operation-made t o z) (all-used (operated t o .table) os (operation-made t o z .sized))
+every-key : (time : ℕ) (os : List Operation) (r : Row) (k : Key) → List·Memᴰ r (after time os .rows) → Has (r .pair .keys) k → List·Memᴰ (keyName (k .serial) (r .suffix)) (madeBy time os)
+every-key time os r k m h =
+    go (comes (newTable (emptyTable 0) time .table) os (new-rules time) (r .suffix) (k .serial) (k .expiry) (record { row = r; there = m; suffix-is = refl; key = k; has = h; serial-is = refl; expiry-is = refl }))
   where
-    u : Table
-    u = operated t o .table
-
-    go : (made : Option (List ℕ)) → Event t u made → AllUsed (operatedAll u os) (namesMade u os) → AllUsed (operatedAll u os) (listed made (namesMade u os))
-    go none v all = all
-    go (some n) v all = (used-later (grows-all u os (v .sized)) (v .used n refl), all)
-
-fresh-none : (t : Table) (n : List ℕ) (ns : List (List ℕ)) → Fresh t n → AllUsed t ns → NoneSame n ns
-fresh-none t n [] f u = tt
-fresh-none t n (m ∷ ns) f u =
-    let w = u .0 in
-    (same-sym n m ∙ ap (λ (x : List ℕ). sameName x n) (w .is) ∙ f (w .row) (w .serial) (w .enrolled) (w .given), fresh-none t n ns f (u .1))
+    go : Held (newTable (emptyTable 0) time .table) (r .suffix) (k .serial) (k .expiry) ⊎ List·Memᴰ (keyName (k .serial) (r .suffix)) (madeBy time os) → List·Memᴰ (keyName (k .serial) (r .suffix)) (madeBy time os)
+    go (inl w) = absurd (List·Memᴰ·not-nil (rw (new-empty time) at (w .there)))
+    go (inr m) = m
 
 -- ── A message call that is done ─────────────────────────────────────────────────────────────────────────────────────
 
@@ -272,7 +266,7 @@ module _ (t : Table) (q : Ask) (i : ℕ) (m : Message) (d : Decision) (x : Decid
   row-is = owner-row t q i m (x .end) sized (x .readings) (x .owner)
 
   same-held : holderAt (withClock t now) i ≡ holderAt t i
-  unfolding holderAt withClock namesOf pairAt
+  unfolding holderAt withClock suffixAt pairAt rowAt
   same-held = refl
 
   roomy : roomFor (q .room) (replyTo (holderAt (withClock t now) i) (q .given) m) ≡ true
@@ -300,21 +294,22 @@ waits-now Empty now new a e = absurd (Option·none-ne-some a e)
 waits-now (Adopted k) now new a e = refl
 waits-now (Renewing k w) now new a e = refl
 
-waiting-is : (ks : Keys) (w : Key) → waitingOf ks ≡ some w → (a : Key) × (ks ≡ Renewing a w)
+pub waiting-is : (ks : Keys) (w : Key) → waitingOf ks ≡ some w → (a : Key) × (ks ≡ Renewing a w)
 waiting-is Empty w e = absurd (Option·none-ne-some w e)
 waiting-is (Adopted a) w e = absurd (Option·none-ne-some w e)
 waiting-is (Renewing a v) w e = (a, ap (Renewing a) (Option·some-injective v w e))
 
-next-more : (p : Pair) (now : ℕ) (g : Algorithm) → ltb (p .«next_serial») (changed (Renews g) now p .«next_serial») ≡ true
+next-more : (p : Pair) (now : ℕ) (g : Algorithm) → p .«next_serial» < changed (Renews g) now p .«next_serial»
 unfolding changed renewed withKeys
-next-more p now g = lt-ltb (p .«next_serial») (p .«next_serial» + 1) (omega arith)
+next-more p now g = omega arith
 
-module _ (time : ℕ) (os : List Operation) where
-  last-sized : Sized (after time os)
-  last-sized = run-sized (newTable time .table) os (new-sized time)
+-- The next serial of the suffix of row i is the row's.
+next-at : (t : Table) → tableRules t ≡ true → (i : ℕ) → i < length (t .rows) → nextOf t (suffixAt t i) ≡ pairAt t i .«next_serial»
+unfolding suffixAt pairAt rowAt
+next-at t r i h = next-row t r (at-member (t .rows) i noRow h)
 
-  last-rules : tableRules (after time os) ≡ true
-  last-rules = run-rules (newTable time .table) os (new-sized time) (new-rules time)
+pub last-rules : (time : ℕ) (os : List Operation) → tableRules (after time os) ≡ true
+last-rules time os = run-rules (newTable (emptyTable 0) time .table) os (new-rules time)
 
 module _ (time : ℕ) (os : List Operation) (q : Ask) (i : ℕ) (m : Message) where
   abbrev t : Table
@@ -327,20 +322,25 @@ module _ (time : ℕ) (os : List Operation) (q : Ask) (i : ℕ) (m : Message) wh
   pair = pairAt t i
 
   module _ (d : Decision) (x : Decides t q i m d) where
-    below : i < length (t .pairs)
-    unfolding namesOf
-    below =
-        let h : i < t .count = owner-below (namesOf t) (asks q) i (x .owner) in
-        let f : t .count ≤ 64 = few t (last-rules time os) in
-        let z : length (t .pairs) ≡ 64 = last-sized time os .rows in
-        omega arith
+    below : i < length (t .rows)
+    below = owner-enrolled t (asks q) i (x .owner)
 
     rests : Allows m pair d
     rests = subst (λ (e : Decision). Allows m pair e) (x .decided) (subst (λ (p : Pair). Allows m p (judge (holderAt t i) (q .given) m .decision)) (held-is t i) (allows (holderAt t i) (q .given) m))
 
+    abbrev then : Row
+    then = record { suffix = suffixAt t i; pair = changed d moment pair }
+
+    rows-then : called t (asks q) .table .rows ≡ set (t .rows) i then
+    unfolding withPair withClock suffixAt rowAt
+    rows-then = ap (λ (r : Result). r .table .rows) (is-done t q i m d x)
+
     pair-then : pairAt (called t (asks q) .table) i ≡ changed d moment pair
-    unfolding pairAt withPair withClock
-    pair-then = ap (λ (r : Result). pairAt (r .table) i) (is-done t q i m d x) ∙ getD-set-same (t .pairs) i (changed d moment pair) noPair below
+    unfolding pairAt rowAt
+    pair-then = ap (λ (l : List Row). getD l i noRow .pair) rows-then ∙ ap (λ (r : Row). r .pair) (getD-set-same (t .rows) i then noRow below)
+
+    next-then : tableRules (called t (asks q) .table) ≡ true → nextOf (called t (asks q) .table) (suffixAt t i) ≡ changed d moment pair .«next_serial»
+    next-then r = next-row (called t (asks q) .table) r {x = then} (rw rows-then (set-has (t .rows) i then below))
 
     reply-then : called t (asks q) .outcome .reply ≡ replyOf (holderAt t i) (q .given) m d
     unfolding replied
@@ -358,26 +358,27 @@ module _ (time : ℕ) (os : List Operation) (q : Ask) (i : ℕ) (m : Message) wh
     new = made pair moment g
 
     abbrev name : List ℕ
-    name = keyName (new .serial) (suffix t i)
+    name = keyName (new .serial) (suffixAt t i)
 
     grant : Grantable m pair
     grant = rests (Renews g) x .allowed
 
-    raised : keyMade t (call (asks q)) ≡ some name
-    unfolding keyMade made
-    raised =
-        ap (keyRaised t (called t (asks q) .table)) (x .owner)
-        ∙ ap (λ (b : Bool). cond b (some (keyName (pair .«next_serial») (suffix t i))) none) (ap (λ (p : Pair). ltb (pair .«next_serial») (p .«next_serial»)) (pair-then (Renews g) x) ∙ one-more)
-      where
-        one-more : ltb (pair .«next_serial») (changed (Renews g) moment pair .«next_serial») ≡ true
-        one-more = next-more pair moment g
+    rules-then : tableRules (called t (asks q) .table) ≡ true
+    unfolding operated
+    rules-then = operation-made t (call (asks q)) (last-rules time os) .rules
+
+    raised-name : keyMade t (call (asks q)) ≡ some name
+    unfolding keyMade suffixOf operated made
+    raised-name =
+        ap (λ (o : Option ℕ). keyRaised t (called t (asks q) .table) (suffixBy t o)) (x .owner)
+        ∙ raised t (called t (asks q) .table) (suffixAt t i) _ _ (next-at t (last-rules time os) i (below (Renews g) x)) (next-then (Renews g) x rules-then) (next-more pair moment g)
 
     waiting-new : waitingOf (pairAt (called t (asks q) .table) i .keys) ≡ some new
     unfolding changed renewed withKeys
     waiting-new = ap (λ (p : Pair). waitingOf (p .keys)) (pair-then (Renews g) x) ∙ waits-now (pair .keys) moment new (grant .signer) (grant .is-signer)
 
     renews : Renewed time os q i m g
-    unfolding replyOf renewedReply granted heldSuffix heldPair holderAt
+    unfolding replyOf renewedReply granted heldSuffix heldPair holderAt operated
     renews = record {
       tkey = grant .tkey;
       keyRecord = grant .keyRecord;
@@ -386,14 +387,14 @@ module _ (time : ℕ) (os : List Operation) (q : Ask) (i : ℕ) (m : Message) wh
       waiting = waiting-new;
       name = name;
       is-name = refl;
-      is-made = raised;
-      new-name = fresh-none t name (madeBy time os) (operation-made t (call (asks q)) (last-sized time os) .fresh name raised) (all-used (newTable time .table) os (new-sized time));
+      is-made = raised-name;
+      new-name = fresh-none t name (madeBy time os) (was-fresh t (called t (asks q) .table) name rules-then (operation-new t (call (asks q)) name raised-name)) (all-used (newTable (emptyTable 0) time .table) os (new-rules time));
       says = reply-then (Renews g) x ∙ rw (grant .is-tkey, grant .is-key) refl;
     }
 
 pub demand2 : Demand2
 demand2 = record {
-  no-name-twice = λ time os. distinct (newTable time .table) os (new-sized time);
+  no-name-twice = λ time os. all-distinct (newTable (emptyTable 0) time .table) os (new-rules time);
   every-key-made = every-key;
   renewal-new = renews;
   adopts-at-once = adopts;

@@ -7,5 +7,6 @@ pub mod Made
 pub mod Enrolment
 pub mod Freshness
 pub mod Refusals
+pub mod Gone
 pub mod Orders
 pub mod Promises

@@ -1,23 +1,28 @@
 -- The promises are kept. Assumes nothing.
 use mathlib.Core.Path.{_≡_, refl, sym, ap, _∙_}
+use mathlib.Core.Logic.{inl}
 use mathlib.Core.List.{List, [], _∷_}
 use Prim.Native.Nat.{ℕ}
 use native.Mathlib.Omega.{arith}
-use Rattle.model.specs.declared.Table.{Table}
+use Rattle.model.specs.declared.Algorithm.the-variants.{Sha256}
 use Rattle.model.specs.declared.Keys.{Keys}
 use Rattle.model.specs.declared.Keys.the-variants.{Empty, Adopted, Renewing}
-use Rattle.model.specs.Tables.{pairAt}
-use Rattle.model.specs.Calls.{Outcome, Call, issue, revoke, issueOn, revokeOn, lookOn, messageOn}
-use Rattle.model.specs.Runs.{final, log, NeverBack, frameOf, ownLog, own, operated}
+use Rattle.model.specs.Names.{keyName}
+use Rattle.model.specs.Tables.{Table, pairAt}
+use Rattle.model.specs.Calls.{Outcome, Call, issue, revoke}
+use Rattle.model.specs.Runs.{call, final, log, NeverBack, frameOf, ownLog, own}
 use Rattle.model.proofs.Running.{after}
-use Rattle.model.proofs.Day.{day}
-use Rattle.guarantees.specs.Bridge.{Bridge}
+use Rattle.model.proofs.Requests.{suffix, ordinary}
+use Rattle.model.proofs.Day.{opening, first as first-key, day}
+use Rattle.guarantees.specs.Freshness.{after as run}
+use Rattle.guarantees.specs.Gone.{Goes}
 use Rattle.guarantees.specs.Isolation.{AtAnyTimes, InAnyOrder}
 use Rattle.guarantees.specs.Sample.{table, calls}
 use Rattle.guarantees.specs.Promises.{numbers, Promises}
 use Rattle.guarantees.proofs.Orders.{never-back, swapped}
 use Rattle.guarantees.proofs.Refusals.{demand1}
-use Rattle.guarantees.proofs.Freshness.{demand2}
+use Rattle.guarantees.proofs.Freshness.{last-rules, demand2}
+use Rattle.guarantees.proofs.Gone.{signed-with, demand8}
 use Rattle.guarantees.proofs.Runs.{demand3}
 
 times : NeverBack calls
@@ -86,29 +91,27 @@ order-needed claim =
     in
     absurd (omega arith)
 
--- ── The whole ───────────────────────────────────────────────────────────────────────────────────────────────────────
+-- ── A key that goes ─────────────────────────────────────────────────────────────────────────────────────────────────
 
-bridge : Bridge
-unfolding operated issueOn revokeOn lookOn messageOn
-bridge = record {
-  enrols = λ t time suffix lifetime fresh algorithm. refl;
-  issues = λ t time number algorithm. refl;
-  revokes = λ t time number. refl;
-  looks = λ t octets. refl;
-  messages = λ t time good offer room octets. refl;
-}
+key-goes : Goes (run 1000 opening) (call (issue 1200 1 256)) suffix first-key
+unfolding opening after
+key-goes = demand8 .ways (run 1000 opening) 0 first-key (last-rules 1000 opening) .replaced 1200 1 256 refl refl refl (inl refl)
+
+-- ── The whole ───────────────────────────────────────────────────────────────────────────────────────────────────────
 
 pub promises : Promises
 unfolding table calls after
 promises = record {
-  code = bridge;
   refusals = demand1;
   names = demand2;
+  gone = demand8;
   isolation = demand3;
   day = day;
   sample-times = times;
   sample-numbers = refl;
   sample-owners = refl;
+  sample-goes = key-goes;
+  sample-signed = signed-with (ordinary 1 1250) (keyName 1 suffix) Sha256 refl;
   needs-times = times-needed;
   needs-order = order-needed;
 }

@@ -8,10 +8,9 @@ use native.Mathlib.Omega.{arith}
 use lib.Dec.{leb, ltb, eqb}
 use lib.ListN.{length}
 use borrow.Author.Tests.{leb-true}
-use Rattle.model.specs.declared.Table.{Table}
 use Rattle.model.specs.Names.{algorithmNumbered}
 use Rattle.model.specs.Messages.{readMessage}
-use Rattle.model.specs.Tables.{withClock, namesOf, rowNamed, suffixOk, isNone, termOk, tableRules}
+use Rattle.model.specs.Tables.{Table, withClock, namesOf, rowNamed, isNone, suffixOk, termOk, tableRules}
 use Rattle.model.specs.Judging.{Holder, nobody, Given}
 use Rattle.model.specs.Checks.{check}
 use Rattle.model.specs.Calls.{DONE, TABLE, TIME, CLOCK, SIZE, OFFER, FORMAT, NOTQUERY, ROOM, NAME, TERM, TWIN, FULL, Result, refusal, done, unchanged, timeFits, timeGoesOn, timeGate, gate, clockAt, newTable, withRow, enrolled, enrolPassed, enrolOn, Step, refuses, leaves, sizeOk, offerOk, roomFor, replyTo, replied, answered, messageStep, Call, message, timeOf, ownerOf, stepOf, holderAt, servedBy, called, messageOn, bufferAfter}
@@ -133,11 +132,11 @@ module _ (t : Table) (time : ℕ) (suffix : List ℕ) (lifetime fresh algorithm 
   enrolled-safe : gate t (some time) ≡ none → Enrols (enrolled (withClock t time) suffix lifetime fresh algorithm)
   unfolding enrolled withRow done DONE NAME TERM TWIN FULL
   enrolled-safe e =
-      by-check Enrols no NAME (refuse NAME refl) (suffixOk (length suffix) suffix) λ _.
+      by-check Enrols no NAME (refuse NAME refl) (suffixOk suffix) λ _.
       by-check Enrols no TERM (refuse TERM refl) (termOk lifetime fresh) λ _.
       by-known Enrols no TERM (refuse TERM refl) (algorithmNumbered algorithm) λ g _.
-      by-check Enrols no TWIN (refuse TWIN refl) (isNone (rowNamed (namesOf (withClock t time)) (withClock t time .count) suffix)) λ _.
-      by-check Enrols no FULL (refuse FULL refl) (ltb (withClock t time .count) 64) λ _.
+      by-check Enrols no TWIN (refuse TWIN refl) (isNone (rowNamed (namesOf (withClock t time)) suffix)) λ _.
+      by-check Enrols no FULL (refuse FULL refl) (ltb (length (withClock t time .rows)) 64) λ _.
       done-by t (some time) enrolRefusals _ refl (clock-then t (some time) enrolRefusals e)
     where
       no : ℕ → Result
@@ -211,8 +210,8 @@ pub demand1 : Demand1
 unfolding newTable messageOn bufferAfter
 demand1 = record {
   every-call = operation-safe;
-  new-done = λ time e. rw e refl;
-  new-refused = λ time e. rw e refl;
+  new-done = λ t time e. rw e refl;
+  new-refused = λ t time e. rw e refl;
   buffer-length = λ t time good offer octets buffer. put-length _ buffer (message-fits t time good offer (length buffer) octets);
   buffer-untouched = λ t time good offer octets buffer n. untouched t (message time good offer (length buffer) octets) buffer n;
 }

@@ -4,11 +4,10 @@ use mathlib.Core.Path.{_≡_}
 use mathlib.Core.Bool.{true}
 use mathlib.Core.Option.{none, some}
 use mathlib.Core.List.{List, _++_, List·Memᴰ}
-use Prim.Native.Nat.{ℕ, _%_, _<_}
+use Prim.Native.Nat.{ℕ, _%_}
 use Rattle.model.specs.declared.Algorithm.{Algorithm}
 use Rattle.model.specs.declared.Key.{Key}
 use Rattle.model.specs.declared.Keys.the-variants.{Adopted, Renewing}
-use Rattle.model.specs.declared.Table.{Table}
 use Rattle.model.specs.declared.Decision.{Decision}
 use Rattle.model.specs.declared.Decision.the-variants.{Renews, Adopts}
 use Rattle.model.specs.Octets.{reads}
@@ -16,19 +15,19 @@ use Rattle.model.specs.Names.{keyName}
 use Rattle.model.specs.Messages.{Record, Message, readMessage}
 use Rattle.model.specs.Tkey.{Tkey, onlyTkey, onlyKey}
 use Rattle.model.specs.Pairs.{made}
-use Rattle.model.specs.Tables.{pairAt, namesOf, suffixAt, tableRules}
+use Rattle.model.specs.Tables.{Row, Table, suffixAt, pairAt, namesOf, tableRules}
 use Rattle.model.specs.Judging.{waitingOf, Given, judge}
 use Rattle.model.specs.Replies.{heading, tkeyData, tkeyRecord, echoed}
-use Rattle.model.specs.Calls.{newTable, gate, Call, message, ownerOf, holderAt, called}
+use Rattle.model.specs.Calls.{emptyTable, newTable, gate, Call, message, ownerOf, holderAt, called}
 use Rattle.model.specs.Runs.{Operation, call, operatedAll, Has, keyMade, namesMade, NoneSame, Distinct}
 
--- The table after a run from a new one.
+-- The table after a run from a new one, made in the place of an empty table.
 abbrev pub after : ℕ → List Operation → Table
-after time os = operatedAll (newTable time .table) os
+after time os = operatedAll (newTable (emptyTable 0) time .table) os
 
 -- The names of the keys that such a run made.
 abbrev pub madeBy : ℕ → List Operation → List (List ℕ)
-madeBy time os = namesMade (newTable time .table) os
+madeBy time os = namesMade (newTable (emptyTable 0) time .table) os
 
 -- A message call, with all that it takes besides the table.
 pub record Ask : Type 0 where
@@ -59,7 +58,7 @@ pub record Renewed (time : ℕ) (os : List Operation) (q : Ask) (i : ℕ) (m : M
   pub waiting : waitingOf (pairAt (called (after time os) (asks q) .table) i .keys) ≡ some (made (pairAt (after time os) i) (q .given .now) g)
   -- its name is the one that the call made, and no key made before has it
   pub name : List ℕ
-  pub is-name : name ≡ keyName (made (pairAt (after time os) i) (q .given .now) g .serial) (suffixAt (namesOf (after time os)) i)
+  pub is-name : name ≡ keyName (made (pairAt (after time os) i) (q .given .now) g .serial) (suffixAt (after time os) i)
   pub is-made : keyMade (after time os) (call (asks q)) ≡ some name
   pub new-name : NoneSame name (madeBy time os)
   -- the reply hands out this name, the new key's times and the offer
@@ -88,11 +87,10 @@ pub record Demand2 : Type 0 where
   pub no-name-twice : (time : ℕ) (os : List Operation) → Distinct (madeBy time os)
   -- and none is left out: every key that the table holds after a run has a name that the run made
   pub every-key-made :
-      (time : ℕ) (os : List Operation) (i : ℕ)
-      → i < after time os .count
-      → (k : Key)
-      → Has (pairAt (after time os) i .keys) k
-      → List·Memᴰ (keyName (k .serial) (suffixAt (namesOf (after time os)) i)) (madeBy time os)
+      (time : ℕ) (os : List Operation) (r : Row) (k : Key)
+      → List·Memᴰ r (after time os .rows)
+      → Has (r .pair .keys) k
+      → List·Memᴰ (keyName (k .serial) (r .suffix)) (madeBy time os)
   -- a granted renewal hands out the name of a key that was never made before
   pub renewal-new :
       (time : ℕ) (os : List Operation) (q : Ask) (i : ℕ) (m : Message) (g : Algorithm)

@@ -1,6 +1,6 @@
-pub mod Bridge
 pub mod Refusals
 pub mod Freshness
+pub mod Gone
 pub mod Isolation
 pub mod Sample
 pub mod Promises

@@ -1,28 +1,33 @@
--- What is promised to the user, in one place. The proof is `promises` of proofs/Promises. Assumes nothing.
+-- What is promised to the user, in one place. The proof is `promises` of proofs/Promises. What ties it to code are the contracts of the calls on a lent table
+-- (operator, looking, server): each is an equation with one of these definitions, on the table that the lent words and octets show. Assumes
+-- nothing.
 use mathlib.Core.Path.{_≡_}
 use mathlib.Core.Option.{none, some}
 use mathlib.Core.List.{List, [], _∷_, map}
 use Prim.Native.Nat.{ℕ}
-use Rattle.model.specs.Calls.{Outcome, Call}
-use Rattle.model.specs.Runs.{log, NeverBack, frameOf, belongs}
-use Rattle.guarantees.specs.Bridge.{Bridge}
+use Rattle.model.specs.declared.Algorithm.the-variants.{Sha256}
+use Rattle.model.specs.Names.{keyName}
+use Rattle.model.specs.Calls.{Outcome, Call, issue}
+use Rattle.model.specs.Runs.{call, log, NeverBack, frameOf, belongs}
 use Rattle.guarantees.specs.Refusals.{Demand1}
-use Rattle.guarantees.specs.Freshness.{Demand2}
+use Rattle.guarantees.specs.Freshness.{after, Demand2}
+use Rattle.guarantees.specs.Gone.{Goes, SignedWith, Demand8}
 use Rattle.guarantees.specs.Isolation.{Demand3, AtAnyTimes, InAnyOrder}
 use Rattle.guarantees.specs.Sample.{table, calls}
-use Rattle.model.proofs.Day.{cases, All}
+use Rattle.model.proofs.Requests.{suffix, ordinary}
+use Rattle.model.proofs.Day.{cases, All, opening, first}
 
 -- The numbers that the calls of a run end with.
 abbrev pub numbers : List (Call × Outcome) → List ℕ
 numbers l = map (λ x. x .1 .answer .number) l
 
 pub record Promises : Type 0 where
-  -- the definitions that the code is proved equal to are those of the promises below
-  pub code : Bridge
   -- each call ends with an answer or a refusal of its list, and a refusal changes nothing but, where the paper says so, the clock
   pub refusals : Demand1
   -- no key's name is made twice, a renewal hands out a new one, an adoption is one step, and the table rules are kept
   pub names : Demand2
+  -- a key that is gone stays gone (02, CR 8)
+  pub gone : Demand8
   -- the pairs are kept apart, over any run whose times never go back
   pub isolation : Demand3
   -- the marked cases of 01, "One day at the counter"
@@ -32,6 +37,9 @@ pub record Promises : Type 0 where
   pub sample-times : NeverBack calls
   pub sample-numbers : numbers (log table calls) ≡ 3 ∷ 0 ∷ 0 ∷ 9 ∷ 0 ∷ 0 ∷ 2 ∷ []
   pub sample-owners : map (belongs (frameOf table)) calls ≡ some 0 ∷ some 0 ∷ some 0 ∷ none ∷ some 1 ∷ none ∷ some 1 ∷ []
-  -- and it does not hold without its hypotheses
+  -- nor is the claim on gone keys: key 1 of the day goes with an issue at 1200, and this query is signed with its name and algorithm
+  pub sample-goes : Goes (after 1000 opening) (call (issue 1200 1 256)) suffix first
+  pub sample-signed : SignedWith (ordinary 1 1250) (keyName 1 suffix) Sha256
+  -- and the claim on runs does not hold without its hypotheses
   pub needs-times : ¬ AtAnyTimes
   pub needs-order : ¬ InAnyOrder

@@ -7,8 +7,7 @@ use mathlib.Core.List.{List, [], _∷_}
 use Prim.Native.Nat.{ℕ}
 use lib.Dec.{eqb}
 use lib.ListN.{length}
-use Rattle.model.specs.declared.Table.{Table}
-use Rattle.model.specs.Tables.{withClock}
+use Rattle.model.specs.Tables.{Table, withClock}
 use Rattle.model.specs.Calls.{DONE, TABLE, TIME, CLOCK, SIZE, OFFER, FORMAT, NOTQUERY, ROOM, NOPAIR, NOKEY, SPENT, NAME, TERM, TWIN, FULL, done, unchanged, gate, emptyTable, newTable, timeFits, Call, issue, revoke, look, message, timeOf, messageOn, bufferAfter}
 use Rattle.model.specs.Runs.{Operation, enrol, call, operated}
 
@@ -55,9 +54,9 @@ pub record Safe (t : Table) (o : Operation) : Type 0 where
 
 pub record Demand1 : Type 0 where
   pub every-call : (t : Table) (o : Operation) → Safe t o
-  -- a new table is refused only with TIME, and has no pairs
-  pub new-done : (time : ℕ) → timeFits time ≡ true → newTable time ≡ record { table = emptyTable time; outcome = done 0 0 }
-  pub new-refused : (time : ℕ) → timeFits time ≡ false → newTable time ≡ unchanged (emptyTable 0) TIME
+  -- a new table has no pairs, and is refused only with TIME: then the lent one is left
+  pub new-done : (t : Table) (time : ℕ) → timeFits time ≡ true → newTable t time ≡ record { table = emptyTable time; outcome = done 0 0 }
+  pub new-refused : (t : Table) (time : ℕ) → timeFits time ≡ false → newTable t time ≡ unchanged t TIME
   -- the lent buffer keeps its length, and a refusal leaves every octet of it
   pub buffer-length :
       (t : Table) (time : ℕ) (good : Bool) (offer octets buffer : List ℕ)

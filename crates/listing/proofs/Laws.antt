@@ -1,31 +1,48 @@
 -- The rows of a listing, one after another. Assumes nothing.
-use mathlib.Core.Path.{_≡_, refl}
-use mathlib.Core.Bool.{true}
-use mathlib.Core.List.{List, _++_, append-nil, append-assoc}
-use Prim.Native.Nat.{ℕ, zero, suc, _+_, _≤_, _<_}
-use native.Mathlib.Nat.{add-zero, zero-add, add-suc, suc-add}
+use Prim.Native.Nat.{ℕ, _+_, _≤_, _<_}
+use mathlib.Core.Path.{_≡_, refl, sym, ap, _∙_}
+use mathlib.Core.Bool.{Bool, true}
+use mathlib.Core.List.{List, [], _∷_, _++_, append-nil, append-assoc}
 use native.Mathlib.Numerals.{add-one}
-use native.Mathlib.Omega.{arith}
-use lib.ListN.{length}
+use lib.ListN.{length, take, getD}
+use lib.Seq.{take-suc}
 use Rattle.model.specs.declared.Pair.{Pair}
-use Rattle.model.specs.declared.Table.{Table}
-use Rattle.model.specs.Tables.{namesOf, suffixAt, pairAt, tableRules}
-use Rattle.model.specs.Listing.{pairLine, keyLines, rowLines, rowsFrom}
-use Rattle.model.proofs.Rows.{short-suffix}
-use Rattle.tables.specs.Rows.{namesIn}
-use Rattle.tables.proofs.Laws.{suffix-short}
+use Rattle.model.specs.Tables.{Row, Table, noRow, rowAt, suffixAt, pairAt, tableRules}
+use Rattle.store.specs.Layout.{countOf, layoutRule, tableOf}
+use Rattle.store.proofs.Laid.{laid}
+use Rattle.outcomes.proofs.Laws.{rules-layout, shown-words}
+use Rattle.model.specs.Listing.{pairLine, keyLines, rowLines, rowsLines}
 
-rows-more : (t : Table) (n i : ℕ) → rowsFrom t (suc n) i ≡ rowsFrom t n i ++ rowLines t (i + n)
-unfolding rowsFrom
-rows-more t zero i = rw (append-nil, add-zero) refl
-rows-more t (suc n) i = rw (rows-more t n (suc i), append-assoc, add-suc, suc-add) refl
+rows-append : (xs ys : List Row) → rowsLines (xs ++ ys) ≡ rowsLines xs ++ rowsLines ys
+unfolding rowsLines
+rows-append [] ys = refl
+rows-append (x ∷ xs) ys = rw (rows-append xs ys, append-assoc) refl
 
--- row i of a table, by its pair and its suffix
-module _ (t : Table) (i : ℕ) (x : List ℕ) (is : x ≡ suffixAt (namesIn (t .count) (t .suffixes) (t .lengths)) i) where
-  -- one row more
-  pub rows-next : (p : Pair) → p ≡ pairAt t i → rowsFrom t i 0 ++ (pairLine x p ++ keyLines (p .keys)) ≡ rowsFrom t (i + 1) 0
-  unfolding rowLines namesOf
-  rows-next p e = rw (e, is, add-one, rows-more t i 0, zero-add) refl
+one-row : (r : Row) → rowsLines (r ∷ []) ≡ rowLines r
+unfolding rowsLines
+one-row r = append-nil (rowLines r)
 
-  pub short : tableRules t ≡ true → i < t .count → length x ≤ 128
-  short r h = rw is (omega (arith, suffix-short (t .count) (t .suffixes) (t .lengths) i, short-suffix t r i h))
+-- one row more
+pub rows-next :
+    (t : Table) (i : ℕ) {x : List ℕ} {p : Pair} → i < length (t .rows) → x ≡ suffixAt t i → p ≡ pairAt t i
+    → rowsLines (take i (t .rows)) ++ (pairLine x p ++ keyLines (p .keys)) ≡ rowsLines (take (i + 1) (t .rows))
+unfolding rowLines suffixAt pairAt rowAt
+rows-next t i h is-x is-p =
+    rw (is-x, is-p)
+    (sym
+    (rw (add-one, take-suc (t .rows) i noRow h)
+    (rows-append (take i (t .rows)) (getD (t .rows) i noRow ∷ []) ∙ ap (λ (l : List ℕ). rowsLines (take i (t .rows)) ++ l) (one-row (getD (t .rows) i noRow)))))
+
+-- What is known of a lent table that keeps the rules.
+module _ (w s : List ℕ) {b : Bool} (is : b ≡ tableRules (tableOf w s)) (kept : b ≡ true) where
+  pub rules : tableRules (tableOf w s) ≡ true
+  rules = sym is ∙ kept
+
+  pub layout : layoutRule w s ≡ true
+  layout = rules-layout w s rules
+
+  pub long : length w ≡ 1091
+  long = shown-words w s layout
+
+  pub few : countOf w ≤ 64
+  few = laid w s layout .few

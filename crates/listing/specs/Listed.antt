@@ -3,8 +3,7 @@ use Prim.Native.Nat.{ℕ}
 use mathlib.Core.Path.{_≡_}
 use mathlib.Core.Bool.{true, false}
 use mathlib.Core.List.{List}
-use Rattle.model.specs.declared.Table.{Table}
-use Rattle.model.specs.Tables.{tableRules}
+use Rattle.model.specs.Tables.{Table, tableRules}
 use Rattle.model.specs.Listing.{listing}
 use Rattle.octets.specs.Wrote.{Wrote}
 use Rattle.listing.specs.declared.Listed.{Listed}

@@ -2,13 +2,13 @@
 use model::Key;
 use model::Keys;
 use model::Pair;
-use model::Table;
 ghost use mathlib.Core.List.{[], _∷_, _++_};
 ghost use Prim.Native.Nat.{_+_, _*_, _≤_};
 ghost use lib.ListN.{length};
 ghost use Rattle.model.specs.Text.{numeral, partedBy};
 ghost use Rattle.model.specs.Listing.{clockLine, pairLine, keyLine, keyLines};
 ghost use Rattle.octets.specs.Wrote.{Wrote};
+ghost use Rattle.store.specs.Layout.{tableOf};
 ghost use Rattle.listing.specs.Listed.{Lists};
 
 // The listing's text, so many octets at the front of the buffer; or the table breaks a rule.
@@ -84,19 +84,20 @@ pub fn row_lines(buf: &mut [u8], at: usize, suffix: &[u8], p: Pair) -> usize
 }
 
 // Lists the table at the front of the buffer. One that keeps the rules has at most 64 pairs: 27 + 64 * 541 octets.
-pub fn list(t: Table, buf: &mut [u8]) -> Listed
+pub fn list(words: &[u64], suffixes: &[u8], buf: &mut [u8]) -> Listed
     requires { ⌜ 40000 ≤ length (now buf) ⌝ }
-    ensures { λ r. ⌜ Lists t (now (buf .entry)) (now (buf .exit)) r ⌝ }
+    ensures { λ r. ⌜ Lists (tableOf (now (words .entry)) (now (suffixes .entry))) (now (buf .entry)) (now (buf .exit)) r ⌝ }
 {
-    if !table_rules::table_rules(t) {
+    if !ruling::rules_ok(words, suffixes) {
         return Listed::Broken;
     }
-    let mut next = clock_line(buf, t.clock);
-    let n = t.count;
+    let mut next = clock_line(buf, words[0]);
+    let n = words[1] as usize;
     let mut i: usize = 0;
     while i < n {
-        let p = t.pairs[i];
-        next = row_lines(buf, next, tables::suffix_at(&t.suffixes, &t.lengths, i), p);
+        let p = outcomes::pair_of(words, suffixes, i);
+        let suffix = outcomes::suffix_of(words, suffixes, i);
+        next = row_lines(buf, next, suffix, p);
         i += 1;
     }
     Listed::Text(next)

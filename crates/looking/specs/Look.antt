@@ -1,19 +1,13 @@
--- What a look finds, by how the message is signed. Assumes nothing.
-use Prim.Native.Nat.{ℕ, _+_}
-use mathlib.Core.Option.{Option, none, some}
-use Rattle.model.specs.declared.Table.{Table}
-use Rattle.model.specs.Names.{afterLabel}
-use Rattle.model.specs.Tsig.{Tsig, Signature, unsigned, misplaced, signed}
-use Rattle.model.specs.Tables.{namesOf, rowNamed}
-use Rattle.model.specs.Judging.{signerOf}
-use Rattle.model.specs.Calls.{Outcome, done, found, holderAt}
+-- What a look knows once TABLE is passed. Assumes nothing.
+use Prim.Native.Nat.{ℕ, _<_}
+use mathlib.Core.Bool.{true}
+use mathlib.Core.List.{List}
+use mathlib.Core.Path.{_≡_}
+use lib.ListN.{length}
+use Rattle.model.specs.Tables.{pairAt, pairRule}
+use Rattle.store.specs.Layout.{layoutRule, tableOf}
 
--- By the row that the TSIG s belongs to.
-abbrev pub lookedAt : Table → Tsig → Option ℕ → Outcome
-lookedAt t s none = done 0 0
-lookedAt t s (some i) = found (i + 1) (signerOf (holderAt t i) s)
-
-abbrev pub lookedBy : Table → Signature → Outcome
-lookedBy t unsigned = done 0 0
-lookedBy t misplaced = done 0 0
-lookedBy t (signed s) = lookedAt t s (rowNamed (namesOf t) (t .count) (afterLabel (s .name)))
+-- The lent table's layout is sound, and each pair keeps its rules.
+pub record Sound (w s : List ℕ) : Type 0 where
+  pub layout : layoutRule w s ≡ true
+  pub rule : (i : ℕ) → i < length (tableOf w s .rows) → pairRule (tableOf w s .clock) (pairAt (tableOf w s) i) ≡ true

@@ -1,147 +1,233 @@
--- Laws of the operator's calls as the code makes them: the rows that a call finds, and the ends of each call. Assumes nothing.
-use Prim.Native.Nat.{ℕ, _+_, _≤_, _<_}
+-- Laws of the operator's calls as the code makes them: one for each end of each call. Assumes nothing.
+use Prim.Native.Nat.{ℕ, _+_, _-_, _≤_, _<_}
+use mathlib.Core.Bool.{Bool, true, false, _&&_}
 use mathlib.Core.Path.{_≡_, refl, sym, ap, _∙_}
-use mathlib.Core.Bool.{true}
 use mathlib.Core.Option.{none, some}
 use mathlib.Core.List.{List, [], _∷_}
 use native.Mathlib.Omega.{arith}
-use lib.Dec.{leb}
-use lib.ListN.{length}
-use borrow.Author.Tests.{lt-ltb, le-ltb, leb-true}
+use lib.Dec.{leb, eqb}
+use lib.ListN.{length, length-map}
+use borrow.Author.Tests.{lt-ltb, le-ltb, leb-true, eq-eqb, ne-eqb}
 use Rattle.model.specs.declared.Algorithm.{Algorithm}
 use Rattle.model.specs.declared.Named.the-variants.{Known, Unknown}
+use Rattle.model.specs.declared.Answer.{Answer}
 use Rattle.model.specs.declared.Key.{Key}
 use Rattle.model.specs.declared.Pair.{Pair}
-use Rattle.model.specs.declared.Table.{Table}
 use Rattle.model.specs.Names.{wireName, algorithmNumbered}
 use Rattle.model.specs.Pairs.{issued, revoked}
-use Rattle.model.specs.Tables.{Names, namesOf, pairAt, withPair, withClock, rowNamed, suffixOk, termOk, serialRule, keysRule, pairRule}
+use Rattle.model.specs.Tables.{Table, namesOf, pairAt, withClock, withPair, suffixOk, termOk, serialRule, keysRule, pairRule}
 use Rattle.model.specs.Judging.{adoptedOf}
-use Rattle.model.specs.Calls.{TIME, NOKEY, SPENT, TERM, TWIN, FULL, Outcome, Result, done, unchanged, timeFits, emptyTable, newTable, withRow, freshPair, enrolled, enrolPassed, enrolOn, numberOwner, issue, revoke, served}
-use Rattle.model.proofs.Tests.{each}
-use Rattle.model.proofs.CallLaws.{number-row, issue-spent, issue-term, issue-done, revoke-empty, revoke-expired, revoke-done, enrol-twin, enrol-full, enrol-done}
+use Rattle.model.specs.Calls.{DONE, TABLE, TIME, NOPAIR, NOKEY, SPENT, NAME, TERM, TWIN, FULL, Result, refusal, done, unchanged, timeFits, gate, newTable, withRow, firstSerial, freshPair, enrolled, enrolPassed, enrolOn, numberOwner, issue, revoke, served}
+use Rattle.model.proofs.Tests.{each, left, right, and-false}
+use Rattle.model.proofs.CallLaws.{number-none, number-some, issue-nopair, issue-spent, issue-term, issue-done, revoke-nopair, revoke-empty, revoke-expired, revoke-done, enrol-name, enrol-term, enrol-algorithm, enrol-twin, enrol-full, enrol-done}
 use Rattle.pairs.specs.declared.Held.{Held}
 use Rattle.pairs.specs.declared.Held.the-variants.{Nothing, Is}
 use Rattle.pairs.specs.Held.{keyOf}
 use Rattle.pairs.specs.Fits.{Fits}
 use Rattle.pairs.proofs.Fit.{rule-fits}
-use Rattle.tables.specs.declared.Found.{Found}
-use Rattle.tables.specs.declared.Found.the-variants.{Row, Nowhere}
-use Rattle.tables.specs.Rows.{namesIn, rowOf}
-use Rattle.outcomes.specs.Gate.{refusalOf, Open, First}
-use Rattle.outcomes.proofs.Laws.{some-refusal}
-
--- The same end, at an equal table.
-pub ends : {u v : Table} {o : Outcome} → u ≡ v → _≡_ {A = Result} (record { table = u; outcome = o }) (record { table = v; outcome = o })
-ends {o = o} e = ap (λ (u : Table). record { table = u; outcome = o }) e
+use Rattle.store.specs.Layout.{countOf, layoutRule, tableOf}
+use Rattle.store.specs.Stored.{Cleared}
+use Rattle.searching.specs.declared.Found.{Found}
+use Rattle.searching.specs.declared.Found.the-variants.{Row, Missing}
+use Rattle.searching.specs.Search.{foundRow, Sought}
+use Rattle.inserting.specs.Insert.{Ready, Inserted}
+use Rattle.outcomes.specs.Gate.{refusalOf, Open}
+use Rattle.outcomes.specs.Ends.{Rest, Settled}
+use Rattle.outcomes.proofs.Laws.{shown-count, some-refusal, rest-refused, rest-done}
+use Rattle.operator.specs.Made.{hasRoom, newIn, Made, RowAdded}
 
 -- ── New table ───────────────────────────────────────────────────────────────────────────────────────────────────────
 
-module _ (time : ℕ) where
-  pub new-late : 0xffff_8000_0000 ≤ time → {u : Table} → u ≡ emptyTable 0 → unchanged u 2 ≡ newTable time
-  unfolding newTable TIME timeFits
-  new-late h e = rw (le-ltb time 0xffff_8000_0000 h, e) refl
+room : (w s : List ℕ) → length w ≡ 1091 → length s ≡ 8192 → hasRoom w s ≡ true
+unfolding hasRoom
+room w s words octets = rw (eq-eqb _ _ words, eq-eqb _ _ octets) refl
 
-  pub new-done : time < 0xffff_8000_0000 → {u : Table} → u ≡ emptyTable time → record { table = u; outcome = done 0 0 } ≡ newTable time
-  unfolding newTable timeFits
-  new-done h e = rw (lt-ltb time 0xffff_8000_0000 h, e) refl
+-- words and octets of these lengths have room for a table
+pub new-in : (time : ℕ) (w s : List ℕ) → length w ≡ 1091 → length s ≡ 8192 → (t : Table) → newIn (hasRoom w s) t time ≡ newTable t time
+unfolding newIn
+new-in time w s words octets t = rw (room w s words octets) refl
+
+module _ (time : ℕ) (w s : List ℕ) (a : Answer) where
+  module _ (e : a ≡ refusal 1 .answer) where
+    made-none : hasRoom w s ≡ false → Made time w s w a
+    unfolding newIn unchanged refusal TABLE
+    made-none h = record { says = rw (h, e) refl; refused = λ _. refl }
+
+    pub made-words : (length w ≡ 1091 → ⊥) → Made time w s w a
+    unfolding hasRoom
+    made-words n = made-none (rw (ne-eqb _ _ n) refl)
+
+    pub made-octets : (length s ≡ 8192 → ⊥) → Made time w s w a
+    unfolding hasRoom
+    made-octets n = made-none (and-false (eqb (length w) 1091) (ne-eqb _ _ n))
+
+  module _ (words : length w ≡ 1091) (octets : length s ≡ 8192) where
+    pub made-late : a ≡ refusal 2 .answer → 0xffff_8000_0000 ≤ time → Made time w s w a
+    unfolding newIn newTable unchanged refusal TIME timeFits
+    made-late e h = record { says = rw (room w s words octets, le-ltb time 0xffff_8000_0000 h, e) refl; refused = λ _. refl }
+
+    pub made-done : {w′ : List ℕ} → Cleared time w′ → a ≡ done 0 0 .answer → time < 0xffff_8000_0000 → Made time w s w′ a
+    unfolding newIn newTable timeFits done DONE
+    made-done c e h = record { says = rw (room w s words octets, lt-ltb time 0xffff_8000_0000 h, c .table s octets, e) refl; refused = λ z. absurd (z (ap (λ (x : Answer). x .number) e)) }
 
 -- ── Enrolment ───────────────────────────────────────────────────────────────────────────────────────────────────────
 
 -- By the first refusal.
-module _ (t : Table) (time n : ℕ) (f : First t time n) (suffix : List ℕ) (lifetime fresh algorithm : ℕ) where
+module _ (t : Table) (time n : ℕ) (says : gate t (some time) ≡ refusalOf n) (suffix : List ℕ) (lifetime fresh algorithm : ℕ) where
   pub enrol-refused : (n ≡ 0 → ⊥) → enrolOn t time suffix lifetime fresh algorithm ≡ unchanged t n
   unfolding enrolOn
-  enrol-refused z = ap (enrolPassed t time suffix lifetime fresh algorithm) (f .says ∙ some-refusal n z)
+  enrol-refused z = ap (enrolPassed t time suffix lifetime fresh algorithm) (says ∙ some-refusal n z)
 
-  pub enrol-passes : n ≡ 0 → {u : Table} → u ≡ withClock t time → enrolOn t time suffix lifetime fresh algorithm ≡ enrolled u suffix lifetime fresh algorithm
+  pub enrol-passes : n ≡ 0 → enrolOn t time suffix lifetime fresh algorithm ≡ enrolled (withClock t time) suffix lifetime fresh algorithm
   unfolding enrolOn
-  enrol-passes e w =
-      ap (enrolPassed t time suffix lifetime fresh algorithm) (f .says ∙ ap refusalOf e)
-      ∙ ap (λ (u : Table). enrolled u suffix lifetime fresh algorithm) (sym w)
+  enrol-passes e = ap (enrolPassed t time suffix lifetime fresh algorithm) (says ∙ ap refusalOf e)
 
-pub open-fits : {t : Table} {time : ℕ} → Open t time → timeFits (t .clock) ≡ true
-open-fits o = rw (o .set) (o .fits)
-
-pub short-octets : (s : List ℕ) → suffixOk (length s) s ≡ true → length s ≤ 128
-unfolding suffixOk
-short-octets s e = leb-true _ _ (each (leb 3 (length s) ∷ leb (length s) 128 ∷ wireName s ∷ []) e .1 .0)
-
-pub fresh-fits : (lifetime fresh time : ℕ) → termOk lifetime fresh ≡ true → timeFits time ≡ true → Fits (freshPair lifetime fresh) time
+pub fresh-fits : (lifetime fresh time : ℕ) → termOk lifetime fresh ≡ true → timeFits time ≡ true → Fits (freshPair 1 lifetime fresh) time
 unfolding pairRule serialRule keysRule freshPair
-fresh-fits lifetime fresh time e h = rule-fits 0 time (freshPair lifetime fresh) (rw e refl) h
+fresh-fits lifetime fresh time e h = rule-fits 0 time (freshPair 1 lifetime fresh) (rw e refl) h
 
--- By what the search found.
-module _
-    (t : Table) (s : List ℕ) (lifetime fresh n : ℕ) (named : suffixOk (length s) s ≡ true) (term : termOk lifetime fresh ≡ true)
-    (g : Algorithm) (known : algorithmNumbered n ≡ Known g)
-    (r : Found) (found : (count : ℕ) → rowNamed (namesIn count (t .suffixes) (t .lengths)) (t .count) s ≡ rowOf r) where
-  pub known-twin : (i : ℕ) → r ≡ Row i → enrolled t s lifetime fresh n ≡ unchanged t 14
-  unfolding namesOf TWIN
-  known-twin i e = enrol-twin t s lifetime fresh n named term g known i (found (t .count) ∙ ap rowOf e)
+pub first-made : (lifetime fresh time : ℕ) (g : Algorithm) {p r : Pair} → p ≡ freshPair 1 lifetime fresh → termOk lifetime fresh ≡ true → timeFits time ≡ true → (Fits p time → r ≡ issued p time g) → r ≡ issued (freshPair 1 lifetime fresh) time g
+first-made lifetime fresh time g is e h f = f (rw is (fresh-fits lifetime fresh time e h)) ∙ ap (λ (p : Pair). issued p time g) is
 
-  pub known-full : r ≡ Nowhere → 64 ≤ t .count → enrolled t s lifetime fresh n ≡ unchanged t 15
-  unfolding namesOf FULL
-  known-full e h = enrol-full t s lifetime fresh n named term g known (found (t .count) ∙ ap rowOf e) (le-ltb _ _ h)
+pub row-added : (w s : List ℕ) (ok : layoutRule w s ≡ true) {suffix : List ℕ} {p : Pair} {w′ s′ : List ℕ} → Inserted suffix p w s w′ s′ → {a : Answer} → a ≡ done (countOf w + 1) 1 .answer → RowAdded suffix p w s w′ s′ a
+unfolding done
+row-added w s ok i e = record { says = rw (i .table, e, shown-count w s ok) refl }
 
-  pub known-done :
-      r ≡ Nowhere
-      → t .count < 64
-      → enrolled t s lifetime fresh n ≡ record { table = withRow t s (issued (freshPair lifetime fresh) (t .clock) g); outcome = done (t .count + 1) 1 }
-  unfolding namesOf freshPair
-  known-done e h = enrol-done t s lifetime fresh n named term g known (found (t .count) ∙ ap rowOf e) (lt-ltb _ _ h)
+module _ (s : List ℕ) (e : suffixOk s ≡ true) where
+  abbrev sizes : List Bool
+  sizes = leb 3 (length s) ∷ leb (length s) 128 ∷ wireName s ∷ []
+
+  pub suffix-long : 3 ≤ length s
+  unfolding suffixOk
+  suffix-long = leb-true _ _ (each sizes e .0)
+
+  pub suffix-short : length s ≤ 128
+  unfolding suffixOk
+  suffix-short = leb-true _ _ (each sizes e .1 .0)
+
+module _ (w s suffix : List ℕ) (lifetime fresh n : ℕ) (a : Answer) where
+  abbrev enrols : Table → Result
+  enrols t = enrolled t suffix lifetime fresh n
+
+  pub bad-name : suffixOk suffix ≡ false → a ≡ refusal 12 .answer → Rest enrols w s w s a
+  unfolding NAME
+  bad-name h e = rest-refused enrols w s 12 (omega arith) e (enrol-name (tableOf w s) suffix lifetime fresh n h)
+
+  module _ (named : suffixOk suffix ≡ true) where
+    pub bad-term : termOk lifetime fresh ≡ false → a ≡ refusal 13 .answer → Rest enrols w s w s a
+    unfolding TERM
+    bad-term h e = rest-refused enrols w s 13 (omega arith) e (enrol-term (tableOf w s) suffix lifetime fresh n named h)
+
+    module _ (term : termOk lifetime fresh ≡ true) where
+      pub bad-algorithm : algorithmNumbered n ≡ Unknown → a ≡ refusal 13 .answer → Rest enrols w s w s a
+      unfolding TERM
+      bad-algorithm h e = rest-refused enrols w s 13 (omega arith) e (enrol-algorithm (tableOf w s) suffix lifetime fresh n named term h)
+
+      module _ (g : Algorithm) (known : algorithmNumbered n ≡ Known g) (r : Found) (found : Sought w s suffix r) where
+        pub known-twin : (i : ℕ) → r ≡ Row i → a ≡ refusal 14 .answer → Rest enrols w s w s a
+        unfolding TWIN
+        known-twin i h e = rest-refused enrols w s 14 (omega arith) e (enrol-twin (tableOf w s) suffix lifetime fresh n named term g known i (found .says ∙ ap foundRow h))
+
+        module _ (place time : ℕ) (missing : r ≡ Missing place) (o : Open w s time) where
+          pub known-full : 64 ≤ countOf w → a ≡ refusal 15 .answer → Rest enrols w s w s a
+          unfolding FULL
+          known-full h e =
+              rest-refused enrols w s 15 (omega arith) e
+              (enrol-full (tableOf w s) suffix lifetime fresh n named term g known (found .says ∙ ap foundRow missing) (le-ltb (length (tableOf w s .rows)) 64 (omega (arith, shown-count w s (o .layout)))))
+
+          pub known-done : countOf w < 64 → {w′ s′ : List ℕ} {p : Pair} → p ≡ issued (freshPair 1 lifetime fresh) time g → RowAdded suffix p w s w′ s′ a → Rest enrols w s w′ s′ a
+          unfolding firstSerial
+          known-done h {w′} {s′} {p} is added =
+              let t = tableOf w s in
+              rest-done enrols w s w′ s′ _ _ (added .says)
+              (enrol-done t suffix lifetime fresh n named term g known (found .says ∙ ap foundRow missing) (lt-ltb (length (t .rows)) 64 (omega (arith, shown-count w s (o .layout))))
+              ∙ ap (λ (x : ℕ). record { table = withRow t suffix (issued (freshPair 1 lifetime fresh) x g); outcome = done (length (t .rows) + 1) 1 }) (o .clock)
+              ∙ ap (λ (q : Pair). record { table = withRow t suffix q; outcome = done (length (t .rows) + 1) 1 }) (sym is))
+
+-- what the search tells an insertion
+pub ready : (w s suffix : List ℕ) (r : Found) → Sought w s suffix r → (place : ℕ) → r ≡ Missing place → layoutRule w s ≡ true → countOf w < 64 → suffixOk suffix ≡ true → Ready place suffix w s
+ready w s suffix r found place e ok room named = record { rule = ok; room = room; long = suffix-long suffix named; short = suffix-short suffix named; gap = found .gap place e }
 
 -- ── Issue and revoke early ──────────────────────────────────────────────────────────────────────────────────────────
 
 -- The row of a pair number.
-module _ (t : Table) (pair : ℕ) (r : Found) (owns : (n : Names) → n .count ≡ t .count → numberOwner n pair ≡ rowOf r) where
-  owner : numberOwner (namesOf t) pair ≡ rowOf r
+module _ (t : Table) (pair : ℕ) (b : Bool) (is : b ≡ (leb 1 pair && leb pair (length (t .rows)))) where
+  names-count : length (namesOf t) ≡ length (t .rows)
   unfolding namesOf
-  owner = owns (namesOf t) refl
+  names-count = length-map (t .rows) (λ r. r .suffix)
 
-  pub no-row : r ≡ Nowhere → numberOwner (namesOf t) pair ≡ none
-  no-row e = owner ∙ ap rowOf e
+  pub no-row : b ≡ false → numberOwner (namesOf t) pair ≡ none
+  no-row e = number-none (namesOf t) pair (rw names-count (sym is ∙ e))
 
-  module _ (i : ℕ) (is : r ≡ Row i) where
-    pub its-row : numberOwner (namesOf t) pair ≡ some i
-    its-row = owner ∙ ap rowOf is
+  module _ (e : b ≡ true) where
+    pub above-nought : 1 ≤ pair
+    above-nought = leb-true _ _ (left (leb 1 pair) (leb pair (length (t .rows))) (sym is ∙ e))
 
-    pub row-in : i < t .count
-    unfolding namesOf
-    row-in = number-row (namesOf t) pair i its-row .1
+    at-most : pair ≤ length (t .rows)
+    at-most = leb-true _ _ (right (leb 1 pair) (leb pair (length (t .rows))) (sym is ∙ e))
 
-    pub row-fits : (time : ℕ) → Open t time → {p : Pair} → p ≡ pairAt t i → (i < 64) × Fits p time
-    row-fits time o e =
-        let h : i < t .count = row-in in
-        let f : t .count ≤ 64 = o .sound .few in
-        (omega arith, rw e (rule-fits (o .sound .tested) time (pairAt t i) (o .sound .rule i h) (o .fits)))
+    pub its-row : numberOwner (namesOf t) pair ≡ some (pair - 1)
+    its-row = number-some (namesOf t) pair (pair - 1) (omega (arith, above-nought)) (omega (arith, at-most, names-count))
 
-module _ (t : Table) (time n i : ℕ) (p : Pair) (is : p ≡ pairAt t i) (w : numberOwner (namesOf t) n ≡ some i) where
-  module _ (a : ℕ) where
-    pub row-spent : 0x1_0000_0000 ≤ p .«next_serial» → served t (issue time n a) ≡ unchanged t 11
-    unfolding SPENT
-    row-spent h = issue-spent t time n a i w (rw (← is) (le-ltb _ _ h))
+    pub row-in : pair - 1 < length (t .rows)
+    row-in = omega (arith, above-nought, at-most)
 
-    module _ (left : p .«next_serial» < 0x1_0000_0000) where
-      pub row-term : algorithmNumbered a ≡ Unknown → served t (issue time n a) ≡ unchanged t 13
-      unfolding TERM
-      row-term u = issue-term t time n a i w (rw (← is) (lt-ltb _ _ left)) u
+module _ (w s : List ℕ) (time n : ℕ) (a : Answer) where
+  pub issue-none : (g : ℕ) → numberOwner (namesOf (tableOf w s)) n ≡ none → a ≡ refusal 9 .answer → Rest (λ t. served t (issue time n g)) w s w s a
+  unfolding NOPAIR
+  issue-none g h e = rest-refused (λ t. served t (issue time n g)) w s 9 (omega arith) e (issue-nopair (tableOf w s) time n g h)
 
-      pub row-issued : (g : Algorithm) → algorithmNumbered a ≡ Known g → served t (issue time n a) ≡ record { table = withPair t i (issued p time g); outcome = done (i + 1) (p .«next_serial») }
-      row-issued g k = rw is (issue-done t time n a i w g (rw (← is) (lt-ltb _ _ left)) k)
+  pub revoke-none : numberOwner (namesOf (tableOf w s)) n ≡ none → a ≡ refusal 9 .answer → Rest (λ t. served t (revoke time n)) w s w s a
+  unfolding NOPAIR
+  revoke-none h e = rest-refused (λ t. served t (revoke time n)) w s 9 (omega arith) e (revoke-nopair (tableOf w s) time n h)
 
-  module _ (r : Held) (held : adoptedOf (p .keys) ≡ keyOf r) where
-    its-key : adoptedOf (pairAt t i .keys) ≡ keyOf r
-    its-key = ap (λ (q : Pair). adoptedOf (q .keys)) (sym is) ∙ held
+  module _ (i : ℕ) (p : Pair) (is : p ≡ pairAt (tableOf w s) i) (own : numberOwner (namesOf (tableOf w s)) n ≡ some i) where
+    abbrev t : Table
+    t = tableOf w s
 
-    pub row-empty : r ≡ Nothing → served t (revoke time n) ≡ unchanged t 10
-    unfolding NOKEY
-    row-empty e = revoke-empty t time n i w (its-key ∙ ap keyOf e)
+    module _ (g : ℕ) where
+      abbrev issues : Table → Result
+      issues u = served u (issue time n g)
 
-    module _ (a : Key) (e : r ≡ Is a) where
-      pub row-expired : a .expiry ≤ time → served t (revoke time n) ≡ unchanged t 10
+      pub row-spent : 0x1_0000_0000 ≤ p .«next_serial» → a ≡ refusal 11 .answer → Rest issues w s w s a
+      unfolding SPENT
+      row-spent h e = rest-refused issues w s 11 (omega arith) e (issue-spent t time n g i own (rw (← is) (le-ltb _ _ h)))
+
+      module _ (rest : p .«next_serial» < 0x1_0000_0000) where
+        pub row-term : algorithmNumbered g ≡ Unknown → a ≡ refusal 13 .answer → Rest issues w s w s a
+        unfolding TERM
+        row-term u e = rest-refused issues w s 13 (omega arith) e (issue-term t time n g i own (rw (← is) (lt-ltb _ _ rest)) u)
+
+        pub row-issued : (h : Algorithm) → algorithmNumbered g ≡ Known h → {q : Pair} {w′ : List ℕ} → q ≡ issued p time h → Settled i q (p .«next_serial») w s w′ a → Rest issues w s w′ s a
+        row-issued h k {q} {w′} q-is st =
+            rest-done issues w s w′ s _ _ (st .says)
+            (issue-done t time n g i own h (rw (← is) (lt-ltb _ _ rest)) k
+            ∙ ap (λ (x : Pair). record { table = withPair t i (issued x time h); outcome = done (i + 1) (x .«next_serial») }) (sym is)
+            ∙ ap (λ (x : Pair). record { table = withPair t i x; outcome = done (i + 1) (p .«next_serial») }) (sym q-is))
+
+    module _ (r : Held) (held : adoptedOf (p .keys) ≡ keyOf r) where
+      abbrev revokes : Table → Result
+      revokes u = served u (revoke time n)
+
+      its-key : adoptedOf (pairAt t i .keys) ≡ keyOf r
+      its-key = ap (λ (q : Pair). adoptedOf (q .keys)) (sym is) ∙ held
+
+      pub row-empty : r ≡ Nothing → a ≡ refusal 10 .answer → Rest revokes w s w s a
       unfolding NOKEY
-      row-expired h = revoke-expired t time n i w a (its-key ∙ ap keyOf e) (le-ltb _ _ h)
+      row-empty h e = rest-refused revokes w s 10 (omega arith) e (revoke-empty t time n i own (its-key ∙ ap keyOf h))
 
-      pub row-revoked : time < a .expiry → served t (revoke time n) ≡ record { table = withPair t i (revoked p time); outcome = done (i + 1) (a .serial) }
-      row-revoked h = rw is (revoke-done t time n i w a (its-key ∙ ap keyOf e) (lt-ltb _ _ h))
+      module _ (k : Key) (h : r ≡ Is k) where
+        pub row-expired : k .expiry ≤ time → a ≡ refusal 10 .answer → Rest revokes w s w s a
+        unfolding NOKEY
+        row-expired l e = rest-refused revokes w s 10 (omega arith) e (revoke-expired t time n i own k (its-key ∙ ap keyOf h) (le-ltb _ _ l))
+
+        pub row-revoked : time < k .expiry → {q : Pair} {w′ : List ℕ} → q ≡ revoked p time → Settled i q (k .serial) w s w′ a → Rest revokes w s w′ s a
+        row-revoked l {q} {w′} q-is st =
+            rest-done revokes w s w′ s _ _ (st .says)
+            (revoke-done t time n i own k (its-key ∙ ap keyOf h) (lt-ltb _ _ l)
+            ∙ ap (λ (x : Pair). record { table = withPair t i (revoked x time); outcome = done (i + 1) (k .serial) }) (sym is)
+            ∙ ap (λ (x : Pair). record { table = withPair t i x; outcome = done (i + 1) (k .serial) }) (sym q-is))
+
+-- a pair that keeps its rules has sums that fit
+pub row-fits : (w s : List ℕ) (time : ℕ) → Open w s time → (i : ℕ) → i < length (tableOf w s .rows) → {p : Pair} → p ≡ pairAt (tableOf w s) i → Fits p time
+row-fits w s time o i h e = rw e (rule-fits (o .tested) time (pairAt (tableOf w s) i) (o .rule i h) (o .fits))

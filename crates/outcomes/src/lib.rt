@@ -1,73 +1,117 @@
-// What the calls on the key table share (document 01, "The desk's business"): what a call returns, its ends, the refusals that come first, and what
-// the numbers that an operator gives stand for.
+// What the calls on a lent table share (document 01, "The desk's business"): their ends, the refusals that come first, the pair of a row, and what the numbers
+// that an operator gives stand for. Nothing here or above says where a row lies.
 use model::Algorithm;
 use model::Answer;
 use model::Named;
-use model::Table;
-use tables::Found;
+use model::Pair;
+ghost use mathlib.Core.Bool.{true, _&&_};
 ghost use mathlib.Core.Path.{_≡_};
+ghost use lib.Dec.{leb};
+ghost use lib.ListN.{length};
+ghost use Prim.Native.Nat.{_<_};
 ghost use Rattle.model.specs.Names.{algorithmNumbered};
-ghost use Rattle.model.specs.Tables.{Names};
-ghost use Rattle.model.specs.Calls.{done, unchanged, numberOwner};
-ghost use Rattle.tables.specs.Rows.{rowOf};
-ghost use Rattle.outcomes.specs.Shown.{shown};
-ghost use Rattle.outcomes.specs.Gate.{First};
+ghost use Rattle.model.specs.Tables.{suffixAt, pairAt};
+ghost use Rattle.model.specs.Calls.{refusal, done};
+ghost use Rattle.store.specs.Layout.{layoutRule, tableOf};
+ghost use Rattle.outcomes.specs.Gate.{First, Entered};
+ghost use Rattle.outcomes.specs.Ends.{Settled};
 
-// What a call returns: its numbers, and the table that it leaves.
-pub struct Outcome {
-    pub answer: Answer,
-    pub table: Table,
-}
+// ── Answers ─────────────────────────────────────────────────────────────────────────────────────────────────────────
 
-pub fn refused(t: Table, n: u64) -> Outcome
-    ensures { λ r. ⌜ shown r ≡ unchanged t n ⌝ }
+pub fn refused(n: u64) -> Answer
+    ensures { λ r. ⌜ r ≡ refusal n .answer ⌝ }
 {
-    Outcome {
-        answer: Answer {
-            number: n,
-            length: 0,
-            error: 0,
-            skew: 0,
-            pair: 0,
-            serial: 0,
-        },
-        table: t,
+    Answer {
+        number: n,
+        length: 0,
+        error: 0,
+        skew: 0,
+        pair: 0,
+        serial: 0,
     }
 }
 
-pub fn finished(t: Table, pair: u64, serial: u64) -> Outcome
-    ensures { λ r. ⌜ shown r ≡ record { table = t; outcome = done pair serial } ⌝ }
+pub fn finished(pair: u64, serial: u64) -> Answer
+    ensures { λ r. ⌜ r ≡ done pair serial .answer ⌝ }
 {
-    Outcome {
-        answer: Answer {
-            number: 0,
-            length: 0,
-            error: 0,
-            skew: 0,
-            pair,
-            serial,
-        },
-        table: t,
+    Answer {
+        number: 0,
+        length: 0,
+        error: 0,
+        skew: 0,
+        pair,
+        serial,
     }
 }
+
+// ── The refusals that come first ────────────────────────────────────────────────────────────────────────────────────
 
 // TABLE, TIME, CLOCK, or 0.
-pub fn first_refusal(t: Table, time: u64) -> u64
-    ensures { λ r. ⌜ First t time r ⌝ }
+pub fn first_refusal(words: &[u64], suffixes: &[u8], time: u64) -> u64
+    ensures { λ r. ⌜ First (now (words .entry)) (now (suffixes .entry)) time r ⌝ }
 {
-    if !table_rules::table_rules(t) {
+    if !ruling::rules_ok(words, suffixes) {
         return 1;
     }
     if 0xffff_8000_0000 <= time {
         return 2;
     }
-    if time < t.clock {
+    if time < words[0] {
         return 3;
     }
     0 // none of them
 }
 
-// The algorithm that an operator names.
+// The gate of every call with a time: TABLE, TIME or CLOCK, with every word left; or 0, with the clock set.
+pub fn enter(words: &mut [u64], suffixes: &[u8], time: u64) -> u64
+    ensures { λ r. ⌜ Entered (now (words .entry)) (now (suffixes .entry)) time (now (words .exit)) r ⌝ }
+{
+    let n = first_refusal(words, suffixes, time);
+    if n != 0 {
+        return n;
+    }
+    store::set_clock(words, time);
+    0
+}
+
+// ── Rows ────────────────────────────────────────────────────────────────────────────────────────────────────────────
+
+// Whether a pair has this number.
+pub fn is_enrolled(words: &[u64], suffixes: &[u8], pair: u64) -> bool
+    requires { ⌜ layoutRule (now words) (now suffixes) ≡ true ⌝ }
+    ensures { λ r. ⌜ r ≡ (leb 1 pair && leb pair (length (tableOf (now (words .entry)) (now (suffixes .entry)) .rows))) ⌝ }
+{
+    (1 <= pair) & (pair <= words[1])
+}
+
+// The pair of a row.
+pub fn pair_of(words: &[u64], suffixes: &[u8], row: usize) -> Pair
+    requires { ⌜ (layoutRule (now words) (now suffixes) ≡ true) × (row < length (tableOf (now words) (now suffixes) .rows)) ⌝ }
+    ensures { λ r. ⌜ r ≡ pairAt (tableOf (now (words .entry)) (now (suffixes .entry))) row ⌝ }
+{
+    store::pair_at(words, store::place_of(words, row))
+}
+
+// The suffix of a row, lent.
+pub fn suffix_of<'a>(words: &[u64], suffixes: &'a [u8], row: usize) -> &'a [u8]
+    requires { ⌜ (layoutRule (now words) (now suffixes) ≡ true) × (row < length (tableOf (now words) (now suffixes) .rows)) ⌝ }
+    ensures { λ r. ⌜ now r ≡ suffixAt (tableOf (now (words .entry)) (now (suffixes .entry))) row ⌝ }
+{
+    store::suffix_at(words, suffixes, store::place_of(words, row))
+}
+
+// Another pair in a row: the call is done.
+pub fn settle(words: &mut [u64], suffixes: &[u8], row: usize, p: Pair, serial: u64) -> Answer
+    requires { ⌜ (layoutRule (now words) (now suffixes) ≡ true) × (row < length (tableOf (now words) (now suffixes) .rows)) ⌝ }
+    ensures { λ r. ⌜ Settled row p serial (now (words .entry)) (now (suffixes .entry)) (now (words .exit)) r ⌝ }
+{
+    let place = store::place_of(words, row);
+    store::store_pair(words, place, p);
+    finished(row as u64 + 1, serial)
+}
+
+// ── What an operator names ──────────────────────────────────────────────────────────────────────────────────────────
+
 pub fn algorithm_numbered(n: u64) -> Named
     ensures { λ r. ⌜ r ≡ algorithmNumbered n ⌝ }
 {
@@ -77,17 +121,4 @@ pub fn algorithm_numbered(n: u64) -> Named
         512 => Named::Known(Algorithm::Sha512),
         _ => Named::Unknown,
     }
-}
-
-// The row of a pair number, among the pairs that are enrolled.
-pub fn row_numbered(count: usize, pair: u64) -> Found
-    ensures { λ r. ⌜ ((n : Names) → n .count ≡ count → numberOwner n pair ≡ rowOf r) ⌝ }
-{
-    if pair == 0 {
-        return Found::Nowhere;
-    }
-    if count < pair as usize {
-        return Found::Nowhere;
-    }
-    Found::Row(pair as usize - 1)
 }

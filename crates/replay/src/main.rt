@@ -9,32 +9,34 @@ mod table_lines;
 use libc::STDIN_FILENO;
 use libc::STDOUT_FILENO;
 use model::Resolver;
-use model::Table;
 use script::Call;
 use script::Command;
 ghost use Prim.Native.Nat.{_<_};
 
-// The run so far: the table and the resolver, the number of the line that is being read, how many octets of it are kept, and whether the run goes on.
+// The run so far: the resolver, the number of the line that is being read, how many octets of it are kept, and whether the run goes on. The table lies in
+// words and octets beside it.
 struct Run {
-    table: Table,
     resolver: Resolver,
     number: u64,
     used: usize,
     on: bool,
 }
 
-// What a command leaves, and how many octets it printed.
+// The resolver that a command leaves, and how many octets it printed.
 struct Done {
-    table: Table,
     resolver: Resolver,
     length: usize,
 }
 
-// Does line number n, a command, and prints at the front of text.
+fn printed(resolver: Resolver, length: usize) -> Done {
+    Done { resolver, length }
+}
+
+// Does the line of a run, a command, and prints at the front of text.
 fn perform(
-    t: Table,
-    s: Resolver,
-    n: u64,
+    words: &mut [u64],
+    suffixes: &mut [u8],
+    r: Run,
     c: Command,
     arena: &[u8],
     out: &mut [u8],
@@ -42,35 +44,22 @@ fn perform(
 ) -> Done {
     let call = c.call;
     let a = c.args;
+    let s = r.resolver;
     match call {
         Call::Table(call) => {
-            let l = table_lines::table_line(t, call, a, arena, out, text);
-            let table = l.table;
-            Done {
-                table,
-                resolver: s,
-                length: l.length,
-            }
+            let n = table_lines::table_line(words, suffixes, call, a, arena, out, text);
+            printed(s, n)
         }
         Call::Resolver(call) => {
             let l = resolver_lines::resolver_line(s, call, a, arena, out, text);
             let resolver = l.state;
-            Done {
-                table: t,
-                resolver,
-                length: l.length,
-            }
+            printed(resolver, l.length)
         }
-        Call::Signing(call) => Done {
-            table: t,
-            resolver: s,
-            length: signing_lines::signing_line(call, a, arena, out, text),
-        },
-        Call::Unread => Done {
-            table: t,
-            resolver: s,
-            length: print::bad_line(text, n),
-        },
+        Call::Signing(call) => {
+            let n = signing_lines::signing_line(call, a, arena, out, text);
+            printed(s, n)
+        }
+        Call::Unread => printed(s, print::bad_line(text, r.number)),
     }
 }
 
@@ -88,16 +77,20 @@ fn written(text: &[u8]) -> bool {
 }
 
 // Does a line and prints its result.
-fn end_line(r: Run, line: &[u8], arena: &mut [u8], out: &mut [u8], text: &mut [u8]) -> Run {
-    let t = r.table;
-    let s = r.resolver;
+fn end_line(
+    words: &mut [u64],
+    suffixes: &mut [u8],
+    r: Run,
+    line: &[u8],
+    arena: &mut [u8],
+    out: &mut [u8],
+    text: &mut [u8],
+) -> Run {
     let c = script::read_line(line, arena);
-    let d = perform(t, s, r.number, c, arena, out, text);
-    let table = d.table;
+    let d = perform(words, suffixes, r, c, arena, out, text);
     let resolver = d.resolver;
     let on = written(print::front(text, d.length));
     Run {
-        table,
         resolver,
         number: next_number(r.number),
         used: 0,
@@ -137,6 +130,8 @@ fn take_line(line: &mut [u8], used: usize, input: &[u8], from: usize) -> Taken {
 
 // Does the line where it ends.
 fn feed_line(
+    words: &mut [u64],
+    suffixes: &mut [u8],
     r: Run,
     t: Taken,
     line: &[u8],
@@ -145,7 +140,15 @@ fn feed_line(
     text: &mut [u8],
 ) -> Run {
     if t.ended {
-        return end_line(r, print::front(line, t.used), arena, out, text);
+        return end_line(
+            words,
+            suffixes,
+            r,
+            print::front(line, t.used),
+            arena,
+            out,
+            text,
+        );
     }
     let mut s = r;
     s.used = t.used;
@@ -163,7 +166,7 @@ fn go_on(on: bool, at: usize, next: usize, end: usize) -> usize
     if at < next { next } else { end }
 }
 
-// The run, and the place behind what was taken of the input.
+// The run, and the place in the input to go on from.
 struct Fed {
     run: Run,
     next: usize,
@@ -171,21 +174,25 @@ struct Fed {
 
 // Takes the input from a place on up to the end of a line, and does the line.
 fn feed_from(
-    r: Run,
-    from: usize,
+    words: &mut [u64],
+    suffixes: &mut [u8],
+    f: Fed,
     input: &[u8],
     line: &mut [u8],
     arena: &mut [u8],
     out: &mut [u8],
     text: &mut [u8],
 ) -> Fed {
-    let t = take_line(line, r.used, input, from);
-    let run = feed_line(r, t, line, arena, out, text);
+    let r = f.run;
+    let t = take_line(line, r.used, input, f.next);
+    let run = feed_line(words, suffixes, r, t, line, arena, out, text);
     Fed { run, next: t.next }
 }
 
 // Does each line that ends in what was read, until the run ends.
 fn feed(
+    words: &mut [u64],
+    suffixes: &mut [u8],
     run: Run,
     input: &[u8],
     line: &mut [u8],
@@ -196,7 +203,8 @@ fn feed(
     let mut r = run;
     let mut i = 0;
     while i < input.len() {
-        let f = feed_from(r, i, input, line, arena, out, text);
+        let from = Fed { run: r, next: i };
+        let f = feed_from(words, suffixes, from, input, line, arena, out, text);
         r = f.run;
         i = go_on(r.on, i, f.next, input.len());
     }
@@ -210,36 +218,56 @@ fn stopped(r: Run) -> Run {
 }
 
 // At the end of the input: a last line without its newline is done too.
-fn finish(r: Run, line: &[u8], arena: &mut [u8], out: &mut [u8], text: &mut [u8]) -> Run {
+fn finish(
+    words: &mut [u64],
+    suffixes: &mut [u8],
+    r: Run,
+    line: &[u8],
+    arena: &mut [u8],
+    out: &mut [u8],
+    text: &mut [u8],
+) -> Run {
     if 0 < r.used {
-        return stopped(end_line(r, print::front(line, r.used), arena, out, text));
+        let last = print::front(line, r.used);
+        return stopped(end_line(words, suffixes, r, last, arena, out, text));
     }
     stopped(r)
 }
 
-// Does the lines that a read brought, by what it answered.
-fn took(
-    r: Run,
+// The run, and what reading on answered.
+struct Read {
+    run: Run,
     got: isize,
+}
+
+// Does the lines that a read brought.
+fn took(
+    words: &mut [u64],
+    suffixes: &mut [u8],
+    read: Read,
     input: &[u8],
     line: &mut [u8],
     arena: &mut [u8],
     out: &mut [u8],
     text: &mut [u8],
 ) -> Run {
-    if got < 0 {
+    let r = read.run;
+    if read.got < 0 {
         os::fail(b"replay: reading standard input");
         return stopped(r);
     }
-    let n = io::count(got, input);
+    let n = io::count(read.got, input);
     if n == 0 {
-        return finish(r, line, arena, out, text);
+        return finish(words, suffixes, r, line, arena, out, text);
     }
-    feed(r, print::front(input, n), line, arena, out, text)
+    let new = print::front(input, n);
+    feed(words, suffixes, r, new, line, arena, out, text)
 }
 
 fn turn(
-    r: Run,
+    words: &mut [u64],
+    suffixes: &mut [u8],
+    run: Run,
     input: &mut [u8],
     line: &mut [u8],
     arena: &mut [u8],
@@ -247,7 +275,8 @@ fn turn(
     text: &mut [u8],
 ) -> Run {
     let got = libc::read(STDIN_FILENO, input);
-    took(r, got, input, line, arena, out, text)
+    let read = Read { run, got };
+    took(words, suffixes, read, input, line, arena, out, text)
 }
 
 fn turns_left(on: bool, turns: u64) -> u64
@@ -259,6 +288,8 @@ fn turns_left(on: bool, turns: u64) -> u64
 
 // Reads until the run ends. A proved loop has to end, and nothing says that the input does: so the loop counts its turns down, from a number that no run uses up.
 fn run_all(
+    words: &mut [u64],
+    suffixes: &mut [u8],
     start: Run,
     input: &mut [u8],
     line: &mut [u8],
@@ -269,25 +300,28 @@ fn run_all(
     let mut r = start;
     let mut turns: u64 = 0xffff_ffff_ffff_ffff;
     while 0 < turns {
-        r = turn(r, input, line, arena, out, text);
+        r = turn(words, suffixes, r, input, line, arena, out, text);
         turns = turns_left(r.on, turns);
     }
 }
 
 fn main() {
+    let mut words = [0u64; 1091];
+    let mut suffixes = [0u8; 8192];
     let mut input = [0u8; 16384];
     let mut line = [0u8; 200001];
     let mut arena = [0u8; 100000];
     let mut out = [0u8; 100000];
     let mut text = [0u8; 210000];
     let start = Run {
-        table: tables::empty_table(0),
         resolver: resolver_lines::newcomer(),
         number: 1,
         used: 0,
         on: true,
     };
     run_all(
+        &mut words,
+        &mut suffixes,
         start,
         &mut input,
         &mut line,

@@ -1,57 +1,23 @@
-// The script's lines that are done to the table.
+// The script's lines that are done to the table, which lies in lent words and octets.
 use crate::print;
 use listing::Listed;
 use model::Answer;
-use model::Table;
-use outcomes::Outcome;
 use script::Args;
 use script::TableCall;
 
-// The table that a line leaves, and how many octets were printed.
-pub struct TableLine {
-    pub table: Table,
-    pub length: usize,
-}
-
-// A call that was done to the table; its reply stands at the front of out.
-fn told(o: Outcome, out: &[u8], text: &mut [u8]) -> TableLine {
-    let a = o.answer;
+// Prints what a call answered; its reply stands at the front of out.
+fn told(a: Answer, out: &[u8], text: &mut [u8]) -> usize {
     let n = (a.length % 65536) as usize;
-    let length = print::result(text, a, print::front(out, n));
-    let table = o.table;
-    TableLine { table, length }
+    print::result(text, a, print::front(out, n))
 }
 
-// A refused `new` leaves the table as it was.
-fn begin(t: Table, time: u64, text: &mut [u8]) -> TableLine {
-    let o = operator::new_table(time);
-    let a = o.answer;
-    if a.number == 0 {
-        return told(o, b"", text);
-    }
-    let length = print::result(text, a, b"");
-    TableLine { table: t, length }
-}
-
-// The numbers of TABLE, for a table that has no listing.
-fn broken() -> Answer {
-    Answer {
-        number: 1,
-        length: 0,
-        error: 0,
-        skew: 0,
-        pair: 0,
-        serial: 0,
-    }
-}
-
-fn list(t: Table, text: &mut [u8]) -> usize {
+fn list(words: &[u64], suffixes: &[u8], text: &mut [u8]) -> usize {
     if text.len() < 40000 {
         return 0;
     }
-    match listing::list(t, text) {
+    match listing::list(words, suffixes, text) {
         Listed::Text(n) => n,
-        Listed::Broken => print::result(text, broken(), b""),
+        Listed::Broken => told(outcomes::refused(1), b"", text),
     }
 }
 
@@ -70,65 +36,58 @@ pub fn up_to(out: &mut [u8], n: usize) -> &mut [u8] {
     &mut out[0..n]
 }
 
-fn message(t: Table, a: Args, arena: &[u8], out: &mut [u8], text: &mut [u8]) -> TableLine {
-    let good = script::number(a, 2) == 1;
-    let offer = script::octets(a, 3, arena);
-    let octets = script::octets(a, 5, arena);
-    let o = server::message(
-        t,
-        script::number(a, 1),
-        good,
-        octets,
-        offer,
-        lent(out, script::number(a, 4)),
-    );
-    told(o, out, text)
-}
-
-fn enrol(t: Table, a: Args, arena: &[u8]) -> Outcome {
-    let suffix = script::octets(a, 2, arena);
+fn enrol(words: &mut [u64], suffixes: &mut [u8], a: Args, arena: &[u8]) -> Answer {
     operator::enrol(
-        t,
+        words,
+        suffixes,
         script::number(a, 1),
-        suffix,
+        script::octets(a, 2, arena),
         script::number(a, 3),
         script::number(a, 4),
         script::number(a, 5),
     )
 }
 
-// Does a call to the table t and prints at the front of text. What a message call writes stands at the front of out.
+fn message(words: &mut [u64], suffixes: &[u8], a: Args, arena: &[u8], out: &mut [u8]) -> Answer {
+    server::message(
+        words,
+        suffixes,
+        script::number(a, 1),
+        script::number(a, 2) == 1,
+        script::octets(a, 5, arena),
+        script::octets(a, 3, arena),
+        lent(out, script::number(a, 4)),
+    )
+}
+
+// Does a call to the table and prints at the front of text; answers how many octets. What a message call writes stands at the front of out.
 pub fn table_line(
-    t: Table,
+    words: &mut [u64],
+    suffixes: &mut [u8],
     call: TableCall,
     a: Args,
     arena: &[u8],
     out: &mut [u8],
     text: &mut [u8],
-) -> TableLine {
+) -> usize {
+    let x = script::number(a, 1);
+    let y = script::number(a, 2);
     match call {
-        TableCall::New => begin(t, script::number(a, 1), text),
-        TableCall::Enrol => told(enrol(t, a, arena), b"", text),
-        TableCall::Issue => told(
-            operator::issue(
-                t,
-                script::number(a, 1),
-                script::number(a, 2),
-                script::number(a, 3),
-            ),
-            b"",
-            text,
-        ),
-        TableCall::Revoke => told(
-            operator::revoke(t, script::number(a, 1), script::number(a, 2)),
-            b"",
-            text,
-        ),
-        TableCall::Look => told(looking::look(t, script::octets(a, 1, arena)), b"", text),
-        TableCall::Message => message(t, a, arena, out, text),
-        TableCall::List => TableLine {
-            table: t,
-            length: list(t, text),
-        },
+        TableCall::New => told(operator::new_table(words, suffixes, x), b"", text),
+        TableCall::Enrol => told(enrol(words, suffixes, a, arena), b"", text),
+        TableCall::Issue => {
+            let z = script::number(a, 3);
+            told(operator::issue(words, suffixes, x, y, z), b"", text)
+        }
+        TableCall::Revoke => told(operator::revoke(words, suffixes, x, y), b"", text),
+        TableCall::Look => {
+            let m = script::octets(a, 1, arena);
+            told(looking::look(words, suffixes, m), b"", text)
+        }
+        TableCall::Message => {
+            let r = message(words, suffixes, a, arena, out);
+            told(r, out, text)
+        }
+        TableCall::List => list(words, suffixes, text),
     }
 }

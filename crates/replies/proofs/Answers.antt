@@ -1,6 +1,6 @@
 -- From what the lower writers leave to the answer of the whole reply, and from that to model's reply. Assumes nothing.
 use Prim.Native.Nat.{ℕ, _+_, _-_, _^_, _≤_, _<_}
-use mathlib.Core.Path.{_≡_, refl, _∙_}
+use mathlib.Core.Path.{_≡_, refl, sym, ap, subst, _∙_}
 use mathlib.Core.Bool.{Bool, true, false, cond}
 use mathlib.Core.List.{List, []}
 use native.Mathlib.Omega.{arith}
@@ -13,29 +13,33 @@ use Rattle.model.specs.declared.Pair.{Pair}
 use Rattle.model.specs.declared.Decision.{Decision}
 use Rattle.model.specs.declared.Decision.the-variants.{Refused, Failed, Renews}
 use Rattle.model.specs.Octets.{put}
-use Rattle.model.specs.Names.{keyName}
+use Rattle.model.specs.Names.{readName, keyName}
 use Rattle.model.specs.Messages.{Message}
 use Rattle.model.specs.Judging.{Holder, heldSuffix, heldPair, Given}
 use Rattle.model.specs.Replies.{rcodeReply, tkeyReply, readoptedReply, replyOf}
 use Rattle.model.specs.Calls.{roomFor}
-use Rattle.records.specs.Record.{cut}
+use Rattle.compression.specs.declared.Got.{Got}
+use Rattle.compression.specs.declared.Got.the-variants.{Bad, Name}
+use Rattle.compression.specs.Name.{shown as shownName, NameRead}
+use Rattle.matching.specs.Compare.{octetsOf, nameStanding}
 use Rattle.octets.specs.Wrote.{Wrote}
 use Rattle.octets.proofs.Laws.{wrote-front, from-start}
 use Rattle.tkey.specs.declared.TkeyFields.{TkeyFields}
-use Rattle.tkey.specs.declared.TkeyFound.{TkeyFound}
-use Rattle.tkey.specs.declared.TkeyFound.the-variants.{Nothing, One}
+use Rattle.tkey.specs.declared.OnlyTkey.the-variants.{Nothing, One}
 use Rattle.tkey.specs.declared.KeyFields.{KeyFields}
-use Rattle.tkey.specs.declared.KeyFound.{KeyFound}
-use Rattle.tkey.specs.declared.KeyFound.the-variants.{Nothing as NoKey, One as OneKey}
-use Rattle.tkey.specs.Fields.{Fits, FoundFits}
-use Rattle.tkey.specs.Key.{Fits as KeyFits, FoundFits as KeyFoundFits}
+use Rattle.tkey.specs.declared.OnlyKey.the-variants.{Nothing as NoKey, One as OneKey}
+use Rattle.tkey.specs.Fields.{Fits, TkeyFits}
+use Rattle.tkey.specs.Key.{KeyFits}
+use Rattle.contents.specs.declared.Contents.{Contents}
+use Rattle.contents.specs.Contents.{ContentsRead}
+use Rattle.contents.proofs.Laws.{sized-most}
 use Rattle.replies.specs.declared.Fields.{Fields}
 use Rattle.replies.specs.declared.Written.{Written}
 use Rattle.replies.specs.declared.Written.the-variants.{Reply, NoRoom}
-use Rattle.replies.specs.Parts.{framed, repeatedOctets, renewedOctets, Replied, FieldsIn, EchoIn, Read}
-use Rattle.replies.specs.Written.{answerOf, otherOf, grantOf, outcomeOf, renewalOctets, Answers, writtenBy, DecisionFits, Replies}
-use Rattle.replies.proofs.Laws.{heading-length, repeated-length, renewed-length, replied-room}
-use Rattle.replies.proofs.Joins.{refused-reply, tkey-reply, readopted-reply, renewed-reply}
+use Rattle.replies.specs.Parts.{framed, repeatedOctets, renewedOctets, tkeyOutcome, Replied, FieldsIn, EchoIn, Read}
+use Rattle.replies.specs.Written.{answerOf, otherOf, grantOf, outcomeOf, renewalOctets, NameOut, Answers, writtenBy, DecisionFits, Replies}
+use Rattle.replies.proofs.Laws.{heading-length, repeated-length, renewed-length, replied-as, replied-room}
+use Rattle.replies.proofs.Joins.{only-tkey, only-key, refused-reply, tkey-reply, readopted-reply, renewed-reply}
 
 -- ── The answer, by the number ───────────────────────────────────────────────────────────────────────────────────────
 
@@ -80,58 +84,84 @@ module _ (m : List ℕ) (t : TkeyFields) (f : Fits m t) where
   grant-in time expiry =
       record { algorithm = f .algorithm; key = f .key; other = f .other; inception = omega arith; expiration = omega arith; mode = f .mode; error = omega arith }
 
-pub echo-in : (m : List ℕ) (e : KeyFields) → KeyFits m e → EchoIn m e
-echo-in m e f = record { content = f .content; kind = f .kind; class = f .class; ttl = f .ttl }
+-- ── Names written out ───────────────────────────────────────────────────────────────────────────────────────────────
+
+module _ (m out : List ℕ) (at : ℕ) (g : Got) (q : NameRead m (readName m at) out g) where
+  stands : (r : Got) → g ≡ r → octetsOf (shownName r out) ≡ nameStanding m at
+  stands r e = sym (ap octetsOf (q .says ∙ ap (λ (x : Got). shownName x out) e))
+
+  pub no-name : (p : ℕ) → g ≡ Bad p → NameOut m at out 0
+  no-name p e = record { says = stands (Bad p) e; short = omega arith; room = q .room }
+
+  pub one-name : (len next : ℕ) → g ≡ Name len next → NameOut m at out len
+  one-name len next e = record { says = stands (Name len next) e; short = rw e at (q .short); room = q .room }
 
 -- the part of an array that holds a name written at its front, lent as name[0..k]
 pub name-lent : {xs b b′ : List ℕ} {k : ℕ} → Wrote xs 0 b b′ k → take (k - 0) b′ ≡ xs
 name-lent {xs} {b} {b′} {k} w = from-start k b′ ∙ wrote-front w
+
+pub out-lent : {m out : List ℕ} {place n : ℕ} → NameOut m place out n → take (n - 0) out ≡ nameStanding m place
+out-lent {out = out} {n = n} o = from-start n out ∙ o .says
 
 pub lent-short : (k : ℕ) (name : List ℕ) → k ≤ 255 → length (take (k - 0) name) < 65536
 lent-short k name h = rw length-take (omega arith)
 
 -- ── The outcomes, as read ───────────────────────────────────────────────────────────────────────────────────────────
 
-pub no-outcome : (m : List ℕ) (end : ℕ) (found : TkeyFound) (name : List ℕ) (error : ℕ) (again : Bool) (b : List ℕ) → found ≡ Nothing
-    → Answers (outcomeOf m end found name error again) b b (Reply 0)
-no-outcome m end found name error again b is = rw is (answers-none b)
+module _ {m : List ℕ} {c : Contents} (x : ContentsRead m c) where
+  pub read-so : Read m (c .end)
+  read-so = record { from = x .after; to = x .within; size = sized-most m (x .sized) }
 
-module _ (m : List ℕ) (found : TkeyFound) (n : ℕ) (t : TkeyFields) (is : found ≡ One n t) where
-  pub found-in : FoundFits m found → (n ≤ 255) × Fits m t
-  found-in f = rw is at f
+  module _ (place : ℕ) (t : TkeyFields) (is : c .tkey ≡ One place t) where
+    found : Fits m t
+    found = subst (TkeyFits m) is (x .tkey-fits) .1
 
-  pub renewal-in : (time expiry : ℕ) (r : Fields) → r ≡ grantOf t time expiry → FoundFits m found → FieldsIn m r
-  renewal-in time expiry r er f = rw er (grant-in m t (found-in f .1) time expiry)
+    module _ (error : ℕ) (again : Bool) (other : Span) (eo : other ≡ otherOf t again) (r : Fields) (er : r ≡ answerOf t error other) where
+      pub outcome-in : error < 65536 → FieldsIn m r
+      outcome-in h = rw (er, eo) (answer-in m t found error again h)
 
-  module _ (error : ℕ) (again : Bool) (other : Span) (eo : other ≡ otherOf t again) (r : Fields) (er : r ≡ answerOf t error other) where
-    pub outcome-in : FoundFits m found → error < 65536 → FieldsIn m r
-    outcome-in f h = rw (er, eo) (answer-in m t (found-in f .1) error again h)
+      pub outcome-answers :
+          error < 65536 → (owner offer : List ℕ) (e : KeyFields) (subject : List ℕ) {b b′ : List ℕ} {n : ℕ} {w : Written}
+          → owner ≡ nameStanding m place
+          → Replied (tkeyOutcome (r .granted) m (c .end) r owner offer e subject) b b′ n
+          → w ≡ writtenBy n
+          → Answers (outcomeOf m (c .end) (c .tkey) error again) b b′ w
+      unfolding tkeyOutcome
+      outcome-answers h owner offer e subject named s ew =
+          let o : tkeyOutcome (r .granted) m (c .end) r owner offer e subject ≡ outcomeOf m (c .end) (One place t) error again = rw (er, eo, named) refl in
+          rw is (answers-by ew (replied-as o s) (repeated-some m (c .end) read-so _ (answer-in m t found error again h) _ _))
 
-    pub outcome-answers : (end : ℕ) (name : List ℕ) {b b′ : List ℕ} {w : Written} → Answers (repeatedOctets m end 0 r (take (n - 0) name) (cut m (r .key))) b b′ w
-        → Answers (outcomeOf m end found name error again) b b′ w
-    outcome-answers end name s =
-        let e : repeatedOctets m end 0 r (take (n - 0) name) (cut m (r .key)) ≡ outcomeOf m end found name error again = rw (is, er, eo, from-start n name) refl in
-        answers-as e s
+    module _ (at : ℕ) (e : KeyFields) (ik : c .key ≡ OneKey at e) where
+      pub echo-in : EchoIn m e
+      echo-in = let f : KeyFits m (OneKey at e) = subst (KeyFits m) ik (x .key-fits) in record { content = f .content; kind = f .kind; class = f .class; ttl = f .ttl }
 
-pub key-in : (m : List ℕ) (key : KeyFound) (k : ℕ) (e : KeyFields) → key ≡ OneKey k e → KeyFoundFits m key → (k ≤ 255) × KeyFits m e
-key-in m key k e is f = rw is at f
+      module _ (p : Pair) (time : ℕ) (r : Fields) (er : r ≡ grantOf t time (time + p .lifetime)) where
+        pub renewal-in : FieldsIn m r
+        renewal-in = rw er (grant-in m t found time (time + p .lifetime))
 
--- the same of a granted renewal
-module _ (m : List ℕ) (end : ℕ) (found : TkeyFound) (key : KeyFound) (subject offer : List ℕ) (p : Pair) (suffix : List ℕ) (time : ℕ) where
-  pub no-renewal : (b : List ℕ) → found ≡ Nothing → Answers (renewalOctets m end found key subject offer p suffix time) b b (Reply 0)
-  no-renewal b is = rw is (answers-none b)
+        pub renewal-answers :
+            (owner offer subject suffix : List ℕ) {b b′ : List ℕ} {n : ℕ} {w : Written}
+            → owner ≡ keyName (p .«next_serial») suffix
+            → subject ≡ nameStanding m at
+            → Replied (tkeyOutcome (r .granted) m (c .end) r owner offer e subject) b b′ n
+            → w ≡ writtenBy n
+            → Answers (renewalOctets m (c .end) (c .tkey) (c .key) offer p suffix time) b b′ w
+        unfolding tkeyOutcome
+        renewal-answers owner offer subject suffix named stands s ew =
+            let o : tkeyOutcome (r .granted) m (c .end) r owner offer e subject ≡ renewalOctets m (c .end) (One place t) (OneKey at e) offer p suffix time = rw (er, named, stands) refl in
+            rw (is, ik) (answers-by ew (replied-as o s) (renewed-some m (c .end) read-so _ (grant-in m t found time (time + p .lifetime)) _ _ e _ echo-in))
 
-  module _ (n : ℕ) (t : TkeyFields) (is : found ≡ One n t) where
-    pub no-echo : (b : List ℕ) → key ≡ NoKey → Answers (renewalOctets m end found key subject offer p suffix time) b b (Reply 0)
-    no-echo b ik = rw (is, ik) (answers-none b)
+-- no TKEY, or no KEY: no reply
+module _ (m : List ℕ) (c : Contents) (b : List ℕ) where
+  pub no-outcome : (error : ℕ) (again : Bool) → c .tkey ≡ Nothing → Answers (outcomeOf m (c .end) (c .tkey) error again) b b (Reply 0)
+  no-outcome error again is = rw is (answers-none b)
 
-    pub renewal-answers : (k : ℕ) (e : KeyFields) → key ≡ OneKey k e → (r : Fields) → r ≡ grantOf t time (time + p .lifetime) → {b b′ : List ℕ} {w : Written}
-        → Answers (renewedOctets m end r (keyName (p .«next_serial») suffix) offer e (take (k - 0) subject)) b b′ w
-        → Answers (renewalOctets m end found key subject offer p suffix time) b b′ w
-    renewal-answers k e ik r er s =
-        let q : renewedOctets m end r (keyName (p .«next_serial») suffix) offer e (take (k - 0) subject) ≡ renewalOctets m end found key subject offer p suffix time =
-        rw (is, ik, er, from-start k subject) refl in
-        answers-as q s
+  module _ (offer : List ℕ) (p : Pair) (suffix : List ℕ) (time : ℕ) where
+    pub no-renewal : c .tkey ≡ Nothing → Answers (renewalOctets m (c .end) (c .tkey) (c .key) offer p suffix time) b b (Reply 0)
+    no-renewal is = rw is (answers-none b)
+
+    pub no-echo : (place : ℕ) (t : TkeyFields) → c .tkey ≡ One place t → c .key ≡ NoKey → Answers (renewalOctets m (c .end) (c .tkey) (c .key) offer p suffix time) b b (Reply 0)
+    no-echo place t is ik = rw (is, ik) (answers-none b)
 
 -- ── What the decision fits ──────────────────────────────────────────────────────────────────────────────────────────
 
@@ -147,31 +177,30 @@ module _ (d : Decision) (p : Pair) (time : ℕ) (f : DecisionFits d p time) wher
 
 -- ── The whole reply ─────────────────────────────────────────────────────────────────────────────────────────────────
 
-module _
-    (m : List ℕ) (end : ℕ) (found : TkeyFound) (name : List ℕ) (key : KeyFound) (subject offer : List ℕ) (p : Pair) (suffix : List ℕ) (time : ℕ) (d : Decision)
-    {b b′ : List ℕ} {w : Written} where
+module _ {m : List ℕ} {c : Contents} {offer : List ℕ} {p : Pair} {suffix : List ℕ} {time : ℕ} {d : Decision} {b b′ : List ℕ} {w : Written} where
   -- no reply
-  pub none-replies : ((h : Holder) (g : Given) (q : Message) → [] ≡ replyOf h g q d) → Answers [] b b′ w → Replies m end found name key subject offer p suffix time d b b′ w
-  none-replies is s = record { answers = λ h g q hs hp ht ho i. answers-as (is h g q) s }
+  pub none-replies : ((h : Holder) (g : Given) (q : Message) → [] ≡ replyOf h g q d) → Answers [] b b′ w → Replies m c offer p suffix time d b b′ w
+  none-replies is s = record { answers = λ x h g hs hp ht ho. answers-as (is h g (x .message)) s }
 
   pub refused-replies : (rcode : ℕ) → ((h : Holder) (g : Given) (q : Message) → rcodeReply q rcode ≡ replyOf h g q d)
-      → Answers (rcodeReply (framed m end) rcode) b b′ w → Replies m end found name key subject offer p suffix time d b b′ w
-  refused-replies rcode is s = record { answers = λ h g q hs hp ht ho i. answers-as (refused-reply m end name subject q found key rcode i ∙ is h g q) s }
+      → Answers (rcodeReply (framed m (c .end)) rcode) b b′ w → Replies m c offer p suffix time d b b′ w
+  refused-replies rcode is s = record { answers = λ x h g hs hp ht ho. answers-as (refused-reply x rcode ∙ is h g (x .message)) s }
 
   pub tkey-replies : (error : ℕ) → ((h : Holder) (g : Given) (q : Message) → tkeyReply q error ≡ replyOf h g q d)
-      → Answers (outcomeOf m end found name error false) b b′ w → Replies m end found name key subject offer p suffix time d b b′ w
-  tkey-replies error is s = record { answers = λ h g q hs hp ht ho i. answers-as (tkey-reply m end name subject q found key error i ∙ is h g q) s }
+      → Answers (outcomeOf m (c .end) (c .tkey) error false) b b′ w → Replies m c offer p suffix time d b b′ w
+  tkey-replies error is s = record { answers = λ x h g hs hp ht ho. answers-as (tkey-reply x (c .tkey) (only-tkey x) error ∙ is h g (x .message)) s }
 
   pub readopted-replies : ((h : Holder) (g : Given) (q : Message) → readoptedReply q ≡ replyOf h g q d)
-      → Answers (outcomeOf m end found name 0 true) b b′ w → Replies m end found name key subject offer p suffix time d b b′ w
-  readopted-replies is s = record { answers = λ h g q hs hp ht ho i. answers-as (readopted-reply m end name subject q found key i ∙ is h g q) s }
+      → Answers (outcomeOf m (c .end) (c .tkey) 0 true) b b′ w → Replies m c offer p suffix time d b b′ w
+  readopted-replies is s = record { answers = λ x h g hs hp ht ho. answers-as (readopted-reply x (c .tkey) (only-tkey x) ∙ is h g (x .message)) s }
 
   pub renewed-replies : (a : Algorithm) → d ≡ Renews a
-      → Answers (renewalOctets m end found key subject offer p suffix time) b b′ w → Replies m end found name key subject offer p suffix time d b b′ w
+      → Answers (renewalOctets m (c .end) (c .tkey) (c .key) offer p suffix time) b b′ w → Replies m c offer p suffix time d b b′ w
   unfolding replyOf
   renewed-replies a is s =
       record {
-        answers = λ h g q hs hp ht ho i.
-            let e : renewalOctets m end found key subject offer p suffix time ≡ renewalOctets m end found key subject (g .offer) (heldPair h) (heldSuffix h) (g .now) = rw (hs, hp, ht, ho) refl in
-            answers-as (e ∙ renewed-reply m end name subject q found key h g a i ∙ rw is refl) s;
+        answers = λ x h g hs hp ht ho.
+            let e : renewalOctets m (c .end) (c .tkey) (c .key) offer p suffix time ≡ renewalOctets m (c .end) (c .tkey) (c .key) (g .offer) (heldPair h) (heldSuffix h) (g .now) =
+            rw (hs, hp, ht, ho) refl in
+            answers-as (e ∙ renewed-reply x (c .tkey) (only-tkey x) (c .key) (only-key x) h g a ∙ rw is refl) s;
       }

@@ -94,11 +94,3 @@ pub record Read (m : List ℕ) (end : ℕ) : Type 0 where
   pub from : 12 ≤ end
   pub to : end ≤ length m
   pub size : length m ≤ 65535
-
--- The message q that was read has the header of the octets m, and a question section that ends at `end`.
-pub record HeadRead (m : List ℕ) (end : ℕ) (q : Message) : Type 0 where
-  pub id : q .id ≡ u16At m 0
-  pub opcode : q .opcode ≡ opcodeOf m
-  pub desired : q .desired ≡ desiredOf m
-  pub asked : q .asked ≡ u16At m 4
-  pub octets : q .questionOctets ≡ part m 12 (end - 12)

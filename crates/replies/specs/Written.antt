@@ -1,5 +1,5 @@
 -- The whole reply, by the decision and by what was read of the message, and what its writer answers. Assumes nothing.
-use Prim.Native.Nat.{ℕ, _+_, _%_, _^_, _<_}
+use Prim.Native.Nat.{ℕ, _+_, _%_, _^_, _≤_, _<_}
 use mathlib.Core.Path.{_≡_}
 use mathlib.Core.Bool.{Bool, true, false, cond}
 use mathlib.Core.List.{List, []}
@@ -11,28 +11,27 @@ use Rattle.model.specs.declared.Decision.{Decision}
 use Rattle.model.specs.declared.Decision.the-variants.{Unsigned, Refused, Passed, Failed, Renews, Adopts, Readopts, Deletes, Withdraws}
 use Rattle.model.specs.Octets.{put}
 use Rattle.model.specs.Names.{keyName}
-use Rattle.model.specs.Messages.{Message}
-use Rattle.model.specs.Tkey.{onlyTkey, onlyKey}
 use Rattle.model.specs.Judging.{Holder, heldSuffix, heldPair, Given}
 use Rattle.model.specs.Replies.{replyOf}
 use Rattle.model.specs.Calls.{roomFor}
+use Rattle.matching.specs.Compare.{nameStanding}
 use Rattle.records.specs.Record.{cut}
 use Rattle.tkey.specs.declared.TkeyFields.{TkeyFields}
-use Rattle.tkey.specs.declared.TkeyFound.{TkeyFound}
-use Rattle.tkey.specs.declared.TkeyFound.the-variants.{Nothing, One}
-use Rattle.tkey.specs.declared.KeyFound.{KeyFound}
-use Rattle.tkey.specs.declared.KeyFound.the-variants.{Nothing as NoKey, One as OneKey}
-use Rattle.tkey.specs.Fields
-use Rattle.tkey.specs.Key
+use Rattle.tkey.specs.declared.OnlyTkey.{OnlyTkey}
+use Rattle.tkey.specs.declared.OnlyTkey.the-variants.{Nothing, One}
+use Rattle.tkey.specs.declared.OnlyKey.{OnlyKey}
+use Rattle.tkey.specs.declared.OnlyKey.the-variants.{Nothing as NoKey, One as OneKey}
+use Rattle.contents.specs.declared.Contents.{Contents}
+use Rattle.contents.specs.Contents.{ContentsRead}
 use Rattle.replies.specs.declared.Fields.{Fields as AnswerFields}
 use Rattle.replies.specs.declared.Written.{Written}
 use Rattle.replies.specs.declared.Written.the-variants.{Reply, NoRoom}
-use Rattle.replies.specs.Parts.{HeadRead, repeatedOctets, renewedOctets}
+use Rattle.replies.specs.Parts.{repeatedOctets, renewedOctets}
 
 -- The TKEY that answers the request's: with this error number and this other data; or with the new key's times.
 abbrev pub answerOf : TkeyFields → ℕ → Span → AnswerFields
 answerOf t error other =
-    record { algorithm = t .algorithm; inception = t .inception; expiration = t .expiration; mode = t .mode; error = error; key = t .key; other = other }
+    record { granted = false; algorithm = t .algorithm; inception = t .inception; expiration = t .expiration; mode = t .mode; error = error; key = t .key; other = other }
 
 abbrev pub otherOf : TkeyFields → Bool → Span
 otherOf t true = record { from = 0; size = 0 }
@@ -40,18 +39,24 @@ otherOf t false = t .other
 
 abbrev pub grantOf : TkeyFields → ℕ → ℕ → AnswerFields
 grantOf t time expiry =
-    record { algorithm = t .algorithm; inception = time % 4294967296; expiration = expiry % 4294967296; mode = t .mode; error = 0; key = t .key; other = t .other }
+    record { granted = true; algorithm = t .algorithm; inception = time % 4294967296; expiration = expiry % 4294967296; mode = t .mode; error = 0; key = t .key; other = t .other }
 
--- The reply of a TKEY outcome that grants no key, and of a granted renewal. `name` holds the TKEY's owner name, `subject` the KEY's.
-abbrev pub outcomeOf : List ℕ → ℕ → TkeyFound → List ℕ → ℕ → Bool → List ℕ
-outcomeOf m end Nothing name error again = []
-outcomeOf m end (One n t) name error again = repeatedOctets m end 0 (answerOf t error (otherOf t again)) (take n name) (cut m (t .key))
+-- The reply of a TKEY outcome that grants no key, and of a granted renewal, by the only TKEY and the only KEY.
+abbrev pub outcomeOf : List ℕ → ℕ → OnlyTkey → ℕ → Bool → List ℕ
+outcomeOf m end Nothing error again = []
+outcomeOf m end (One place t) error again = repeatedOctets m end 0 (answerOf t error (otherOf t again)) (nameStanding m place) (cut m (t .key))
 
-abbrev pub renewalOctets : List ℕ → ℕ → TkeyFound → KeyFound → List ℕ → List ℕ → Pair → List ℕ → ℕ → List ℕ
-renewalOctets m end Nothing key subject offer p suffix time = []
-renewalOctets m end (One n t) NoKey subject offer p suffix time = []
-renewalOctets m end (One n t) (OneKey k e) subject offer p suffix time =
-    renewedOctets m end (grantOf t time (time + p .lifetime)) (keyName (p .«next_serial») suffix) offer e (take k subject)
+abbrev pub renewalOctets : List ℕ → ℕ → OnlyTkey → OnlyKey → List ℕ → Pair → List ℕ → ℕ → List ℕ
+renewalOctets m end Nothing key offer p suffix time = []
+renewalOctets m end (One place t) NoKey offer p suffix time = []
+renewalOctets m end (One place t) (OneKey at e) offer p suffix time =
+    renewedOctets m end (grantOf t time (time + p .lifetime)) (keyName (p .«next_serial») suffix) offer e (nameStanding m at)
+
+-- The name at a place of the message m is written out: it is the first n octets of `out`.
+pub record NameOut (m : List ℕ) (place : ℕ) (out : List ℕ) (n : ℕ) : Type 0 where
+  pub says : take n out ≡ nameStanding m place
+  pub short : n ≤ 255
+  pub room : length out ≡ 255
 
 -- What the writer answers of a reply: it is there, and so long; or there is no room, and nothing was written.
 abbrev pub AnswersBy : List ℕ → List ℕ → List ℕ → Written → Type 0
@@ -76,21 +81,13 @@ DecisionFits Readopts p time = Unit {0}
 DecisionFits Deletes p time = Unit {0}
 DecisionFits Withdraws p time = Unit {0}
 
--- What was read of the message m is the message q: its header and question section, its only TKEY and its only KEY record.
-pub record ReadAs (m : List ℕ) (end : ℕ) (found : TkeyFound) (name : List ℕ) (key : KeyFound) (subject : List ℕ) (q : Message) : Type 0 where
-  pub head : HeadRead m end q
-  pub tkey : onlyTkey q ≡ Fields.shown m name found
-  pub key-record : onlyKey q ≡ Key.shown m subject key
-
--- The answer and the buffer are those of model's reply, whatever message, holder and call these are the readings of.
+-- The answer and the buffer are those of model's reply to the message that was read, whatever holder and call these are the readings of.
 pub record Replies
-    (m : List ℕ) (end : ℕ) (found : TkeyFound) (name : List ℕ) (key : KeyFound) (subject offer : List ℕ) (p : Pair) (suffix : List ℕ) (time : ℕ) (d : Decision)
-    (entry exit : List ℕ) (w : Written) : Type 0 where
+    (m : List ℕ) (c : Contents) (offer : List ℕ) (p : Pair) (suffix : List ℕ) (time : ℕ) (d : Decision) (entry exit : List ℕ) (w : Written) : Type 0 where
   pub answers :
-      (h : Holder) (g : Given) (q : Message)
+      (x : ContentsRead m c) (h : Holder) (g : Given)
       → heldSuffix h ≡ suffix
       → heldPair h ≡ p
       → g .now ≡ time
       → g .offer ≡ offer
-      → ReadAs m end found name key subject q
-      → Answers (replyOf h g q d) entry exit w
+      → Answers (replyOf h g (x .message) d) entry exit w

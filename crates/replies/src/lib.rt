@@ -1,28 +1,29 @@
 // Replies (01, "The reply"), length first, into the lent buffer. A writer takes the place and answers the next one.
+use compression::Got;
+use contents::Contents;
 use model::Decision;
 use model::Pair;
 use model::Span;
 use tkey::KeyFields;
-use tkey::KeyFound;
+use tkey::OnlyKey;
+use tkey::OnlyTkey;
 use tkey::TkeyFields;
-use tkey::TkeyFound;
 ghost use mathlib.Core.Path.{_≡_};
 ghost use mathlib.Core.List.{[], _∷_};
 ghost use Prim.Native.Nat.{_+_, _-_, _*_, _^_, _≤_, _<_};
 ghost use lib.ListN.{length};
 ghost use Rattle.model.specs.Octets.{be16};
-ghost use Rattle.model.specs.Names.{keyName};
 ghost use Rattle.model.specs.Messages.{opcodeOf, desiredOf};
 ghost use Rattle.model.specs.Replies.{heading, tkeyRecord, rcodeReply};
 ghost use Rattle.octets.specs.Wrote.{Wrote};
 ghost use Rattle.records.specs.Record.{cut, Within};
-ghost use Rattle.tkey.specs.Fields.{FoundFits};
-ghost use Rattle.tkey.specs.Key.{FoundFits as KeyFits};
+ghost use Rattle.contents.specs.Contents.{ContentsRead};
 ghost use Rattle.replies.specs.Parts.{headingFront, headingBack, framed, sizedOctets, recordFront, tkeyFront, dataOf, echoOf, keyData, repeatedOctets, renewedOctets, tkeyOutcome, repeatedSize, renewedSize, Replied, FieldsIn, EchoIn, Read};
-ghost use Rattle.replies.specs.Written.{answerOf, otherOf, grantOf, outcomeOf, renewalOctets, Answers, writtenBy, DecisionFits, Replies};
+ghost use Rattle.replies.specs.Written.{answerOf, otherOf, grantOf, outcomeOf, renewalOctets, NameOut, Answers, writtenBy, DecisionFits, Replies};
 
-// The TKEY that answers: parts of the request, and numbers.
+// The TKEY that answers: whether it grants a key, parts of the request, and numbers.
 struct Fields {
+    pub granted: bool,
     pub algorithm: Span,
     pub inception: usize,
     pub expiration: usize,
@@ -310,7 +311,6 @@ fn tkey_reply<'a>(
     buf: &mut [u8],
     m: &'a [u8],
     end: usize,
-    granted: bool,
     t: Fields,
     owner: &[u8],
     offer: &'a [u8],
@@ -319,12 +319,12 @@ fn tkey_reply<'a>(
 ) -> usize
     requires { ⌜ Read (now m) end × FieldsIn (now m) t × EchoIn (now m) e
         × (length (now owner) < 65536) × (length (now offer) < 65536) × (length (now subject) < 65536) ⌝ }
-    ensures { λ r. ⌜ Replied (tkeyOutcome granted (now (m .entry)) end t (now (owner .entry)) (now (offer .entry)) e (now (subject .entry))) (now (buf .entry)) (now (buf .exit)) r ⌝ }
+    ensures { λ r. ⌜ Replied (tkeyOutcome (t .granted) (now (m .entry)) end t (now (owner .entry)) (now (offer .entry)) e (now (subject .entry))) (now (buf .entry)) (now (buf .exit)) r ⌝ }
 {
     let from = t.key.from;
     let to = from + t.key.size;
-    let key = key_data(granted, m, from, to, offer);
-    if granted {
+    let key = key_data(t.granted, m, from, to, offer);
+    if t.granted {
         renewed(buf, m, end, t, owner, key, e, subject)
     } else {
         repeated(buf, m, end, t, owner, key)
@@ -356,6 +356,16 @@ fn refused(buf: &mut [u8], m: &[u8], end: usize, rcode: usize) -> Written
     by_length(rcode_reply(buf, m, end, rcode))
 }
 
+// The name at `place` of the message m, written out into `out`: how many octets it has; 0 where none can be read.
+fn name_at(m: &[u8], out: &mut [u8; 255], place: usize) -> usize
+    ensures { λ r. ⌜ NameOut (now (m .entry)) place (now (out .exit)) r ⌝ }
+{
+    match compression::read_name(m, out, place) {
+        Got::Bad(_) => 0,
+        Got::Name { len, next: _ } => len,
+    }
+}
+
 // The TKEY that answers the request's: with this error number, and this other data.
 fn answering(t: TkeyFields, error: usize, other: Span) -> Fields
     ensures { λ r. ⌜ r ≡ answerOf t error other ⌝ }
@@ -363,6 +373,7 @@ fn answering(t: TkeyFields, error: usize, other: Span) -> Fields
     let algorithm = t.algorithm;
     let key = t.key;
     Fields {
+        granted: false,
         algorithm,
         inception: t.inception,
         expiration: t.expiration,
@@ -371,21 +382,6 @@ fn answering(t: TkeyFields, error: usize, other: Span) -> Fields
         key,
         other,
     }
-}
-
-// The request's TKEY repeated so.
-fn repeats(buf: &mut [u8], m: &[u8], end: usize, t: Fields, owner: &[u8]) -> Written
-    requires { ⌜ Read (now m) end × FieldsIn (now m) t × (length (now owner) < 65536) ⌝ }
-    ensures { λ r. ⌜ Answers (repeatedOctets (now (m .entry)) end 0 t (now (owner .entry)) (cut (now (m .entry)) (t .key))) (now (buf .entry)) (now (buf .exit)) r ⌝ }
-{
-    let none = KeyFields {
-        section: 0,
-        kind: 0,
-        class: 0,
-        ttl: 0,
-        content: Span { from: 0, size: 0 },
-    };
-    by_length(tkey_reply(buf, m, end, false, t, owner, m, none, owner))
 }
 
 // Other data of the answer: the request's, or none.
@@ -400,24 +396,28 @@ fn other_data(t: TkeyFields, again: bool) -> Span
 }
 
 // The reply of a TKEY outcome that grants no key: the request's TKEY with this error; where the key was adopted already, without its other data.
-fn outcome(
-    buf: &mut [u8],
-    m: &[u8],
-    end: usize,
-    found: TkeyFound,
-    name: &[u8; 255],
-    error: usize,
-    again: bool,
-) -> Written
-    requires { ⌜ Read (now m) end × FoundFits (now m) found × (error < 65536) ⌝ }
-    ensures { λ r. ⌜ Answers (outcomeOf (now (m .entry)) end found (now (name .entry)) error again) (now (buf .entry)) (now (buf .exit)) r ⌝ }
+fn outcome(buf: &mut [u8], m: &[u8], c: Contents, error: usize, again: bool) -> Written
+    requires { ⌜ ContentsRead (now m) c × (error < 65536) ⌝ }
+    ensures { λ r. ⌜ Answers (outcomeOf (now (m .entry)) (c .end) (c .tkey) error again) (now (buf .entry)) (now (buf .exit)) r ⌝ }
 {
-    match found {
-        TkeyFound::Nothing => Written::Reply(0),
-        TkeyFound::One { name: n, fields } => {
+    let only = c.tkey;
+    match only {
+        OnlyTkey::Nothing => Written::Reply(0),
+        OnlyTkey::One { place, fields } => {
+            let mut name = [0u8; 255];
+            let n = name_at(m, &mut name, place);
             let all = &name[..];
+            let owner = &all[0..n];
             let other = other_data(fields, again);
-            repeats(buf, m, end, answering(fields, error, other), &all[0..n])
+            let t = answering(fields, error, other);
+            let none = KeyFields {
+                section: 0,
+                kind: 0,
+                class: 0,
+                ttl: 0,
+                content: Span { from: 0, size: 0 },
+            };
+            by_length(tkey_reply(buf, m, c.end, t, owner, m, none, owner))
         }
     }
 }
@@ -430,6 +430,7 @@ fn granting(t: TkeyFields, time: u64, expiry: u64) -> Fields
     let key = t.key;
     let other = t.other;
     Fields {
+        granted: true,
         algorithm,
         inception: (time % 4294967296) as usize,
         expiration: (expiry % 4294967296) as usize,
@@ -441,99 +442,62 @@ fn granting(t: TkeyFields, time: u64, expiry: u64) -> Fields
 }
 
 // The reply to a granted renewal: the new key's name, its times, the offer, and the echo.
-fn granted<'a>(
-    buf: &mut [u8],
-    m: &'a [u8],
-    end: usize,
-    t: Fields,
-    serial: u64,
-    suffix: &[u8],
-    offer: &'a [u8],
-    e: KeyFields,
-    subject: &[u8],
-) -> Written
-    requires { ⌜ Read (now m) end × FieldsIn (now m) t × EchoIn (now m) e × (serial < 2 ^ 32)
-        × (length (now suffix) ≤ 128) × (length (now offer) ≤ 1024) × (length (now subject) < 65536) ⌝ }
-    ensures { λ r. ⌜ Answers (renewedOctets (now (m .entry)) end t (keyName serial (now (suffix .entry))) (now (offer .entry)) e (now (subject .entry))) (now (buf .entry)) (now (buf .exit)) r ⌝ }
-{
-    let mut name = [0u8; 255];
-    let k = names::key_name(&mut name, serial, suffix);
-    let all = &name[..];
-    by_length(tkey_reply(buf, m, end, true, t, &all[0..k], offer, e, subject))
-}
-
-// The reply to a granted renewal, by what was read of the message: found and key are its TKEY and its KEY, subject holds the KEY's owner name.
 fn renewal<'a>(
     buf: &mut [u8],
     m: &'a [u8],
-    end: usize,
-    found: TkeyFound,
-    key: KeyFound,
-    subject: &[u8; 255],
+    c: Contents,
     offer: &'a [u8],
     pair: Pair,
     suffix: &[u8],
     time: u64,
 ) -> Written
-    requires { ⌜ Read (now m) end × FoundFits (now m) found × KeyFits (now m) key × (pair .«next_serial» < 2 ^ 32) × (time + pair .lifetime < 2 ^ 64)
+    requires { ⌜ ContentsRead (now m) c × (pair .«next_serial» < 2 ^ 32) × (time + pair .lifetime < 2 ^ 64)
         × (length (now suffix) ≤ 128) × (length (now offer) ≤ 1024) ⌝ }
-    ensures { λ r. ⌜ Answers (renewalOctets (now (m .entry)) end found key (now (subject .entry)) (now (offer .entry)) pair (now (suffix .entry)) time) (now (buf .entry)) (now (buf .exit)) r ⌝ }
+    ensures { λ r. ⌜ Answers (renewalOctets (now (m .entry)) (c .end) (c .tkey) (c .key) (now (offer .entry)) pair (now (suffix .entry)) time) (now (buf .entry)) (now (buf .exit)) r ⌝ }
 {
-    match found {
-        TkeyFound::Nothing => Written::Reply(0),
-        TkeyFound::One { name: _, fields } => match key {
-            KeyFound::Nothing => Written::Reply(0),
-            KeyFound::One { name: n, fields: e } => {
-                let all = &subject[..];
+    let only = c.tkey;
+    let one = c.key;
+    match only {
+        OnlyTkey::Nothing => Written::Reply(0),
+        OnlyTkey::One { place: _, fields } => match one {
+            OnlyKey::Nothing => Written::Reply(0),
+            OnlyKey::One { place, fields: e } => {
+                let mut name = [0u8; 255];
+                let mut subject = [0u8; 255];
+                let k = names::key_name(&mut name, pair.next_serial, suffix);
+                let n = name_at(m, &mut subject, place);
+                let all = &name[..];
+                let echoed = &subject[..];
                 let t = granting(fields, time, time + pair.lifetime);
-                granted(
-                    buf,
-                    m,
-                    end,
-                    t,
-                    pair.next_serial,
-                    suffix,
-                    offer,
-                    e,
-                    &all[0..n],
-                )
+                by_length(tkey_reply(buf, m, c.end, t, &all[0..k], offer, e, &echoed[0..n]))
             }
         },
     }
 }
 
-// The reply to a message (01, "The reply"), by what was decided: found and key are what was read of it, name and subject hold their owner names.
-// Nothing is written where there is no room.
+// The reply to the message m (01, "The reply"), which says c, by what was decided. Nothing is written where there is no room.
 pub fn reply<'a>(
     buf: &mut [u8],
     m: &'a [u8],
-    end: usize,
+    c: Contents,
     d: Decision,
-    found: TkeyFound,
-    name: &[u8; 255],
-    key: KeyFound,
-    subject: &[u8; 255],
     offer: &'a [u8],
     pair: Pair,
     suffix: &[u8],
     time: u64,
 ) -> Written
-    requires { ⌜ Read (now m) end × FoundFits (now m) found × KeyFits (now m) key × DecisionFits d pair time
-        × (length (now suffix) ≤ 128) × (length (now offer) ≤ 1024) ⌝ }
-    ensures { λ r. ⌜ Replies (now (m .entry)) end found (now (name .entry)) key (now (subject .entry)) (now (offer .entry)) pair (now (suffix .entry)) time d
-        (now (buf .entry)) (now (buf .exit)) r ⌝ }
+    requires { ⌜ ContentsRead (now m) c × DecisionFits d pair time × (length (now suffix) ≤ 128) × (length (now offer) ≤ 1024) ⌝ }
+    ensures { λ r. ⌜ Replies (now (m .entry)) c (now (offer .entry)) pair (now (suffix .entry)) time d (now (buf .entry)) (now (buf .exit)) r ⌝ }
 {
     match d {
         Decision::Unsigned => Written::Reply(0),
-        Decision::Refused { rcode, error: _ } => refused(buf, m, end, rcode as usize),
+        Decision::Refused { rcode, error: _ } => refused(buf, m, c.end, rcode as usize),
         Decision::Passed { skew: _ } => Written::Reply(0),
-        Decision::Failed { error } => outcome(buf, m, end, found, name, error as usize, false),
-        Decision::Renews(_) => {
-            renewal(buf, m, end, found, key, subject, offer, pair, suffix, time)
-        }
-        Decision::Adopts => outcome(buf, m, end, found, name, 0, false),
-        Decision::Readopts => outcome(buf, m, end, found, name, 0, true),
-        Decision::Deletes => outcome(buf, m, end, found, name, 0, false),
-        Decision::Withdraws => outcome(buf, m, end, found, name, 0, false),
+        Decision::Failed { error } => outcome(buf, m, c, error as usize, false),
+        Decision::Renews(_) => renewal(buf, m, c, offer, pair, suffix, time),
+        Decision::Adopts => outcome(buf, m, c, 0, false),
+        Decision::Readopts => outcome(buf, m, c, 0, true),
+        Decision::Deletes => outcome(buf, m, c, 0, false),
+        Decision::Withdraws => outcome(buf, m, c, 0, false),
     }
 }

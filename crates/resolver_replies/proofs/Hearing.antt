@@ -1,8 +1,9 @@
 -- Laws of reading a reply as the code makes it. Assumes nothing.
-use Prim.Native.Nat.{ℕ, _%_, _≤_, _<_}
-use mathlib.Core.Path.{_≡_, refl, ap, sym, _∙_}
+use Prim.Native.Nat.{ℕ, _%_, _≤_}
+use mathlib.Core.Path.{_≡_, refl, ap, sym, subst, _∙_}
 use mathlib.Core.Bool.{Bool, true, false}
 use mathlib.Core.List.{List}
+use native.Mathlib.Omega.{arith}
 use lib.Dec.{eqb}
 use lib.ListN.{length, take, getD}
 use borrow.Author.Tests.{eq-eqb, ne-eqb}
@@ -17,24 +18,22 @@ use Rattle.model.specs.declared.Resolver.{Resolver}
 use Rattle.model.specs.declared.Heard.{Heard}
 use Rattle.model.specs.Octets.{u16At, stops}
 use Rattle.model.specs.Names.{algorithmNamed}
-use Rattle.model.specs.Messages.{responseOf, readMessage}
-use Rattle.model.specs.Tsig.{signature}
+use Rattle.model.specs.Messages.{readMessage}
 use Rattle.model.specs.Judging.{partialRevoke}
 use Rattle.model.specs.Calls.{sizeOk}
 use Rattle.model.specs.Resolver.{LOST, WRONGID, UNSIGNED, FORMAT, TkeyAnswer, onlyAnswer, answerIn, offeredBy, renewedIn, moved, isMode, movedBy, closed, unheard, rcodeOf, accepted, heard, readReply}
 use Rattle.matching.specs.Compare.{nameStanding}
 use Rattle.messages.specs.declared.Kept.{Kept}
-use Rattle.messages.specs.declared.Seen.{Seen}
-use Rattle.messages.specs.declared.Outline.{Outline}
-use Rattle.messages.specs.declared.Outline.the-variants.{Bad, Whole}
 use Rattle.records.specs.Record.{Within}
-use Rattle.messages.specs.Scan.{signatureAt, WholeRead, Scanned}
 use Rattle.messages.specs.Answers.{AnswersRead}
-use Rattle.messages.proofs.Sizes.{size-short, size-long, size-fits}
 use Rattle.tsig.specs.declared.TsigFields.{TsigFields}
 use Rattle.tsig.specs.declared.Signer.{Signer}
 use Rattle.tsig.specs.declared.Signer.the-variants.{Nobody, Ill, Key}
-use Rattle.tsig.specs.Signature.{tsigFrom, shown as signerShown, SignatureRead}
+use Rattle.tsig.specs.Signature.{tsigFrom}
+use Rattle.contents.specs.declared.Contents.{Contents}
+use Rattle.contents.specs.declared.Reading.{Reading}
+use Rattle.contents.specs.declared.Reading.the-variants.{Size, Broken, Whole}
+use Rattle.contents.specs.Contents.{ContentsRead, ReadAs}
 use Rattle.answers.specs.declared.AnswerFields.{AnswerFields}
 use Rattle.answers.specs.declared.AnswerFound.{AnswerFound}
 use Rattle.answers.specs.declared.AnswerFound.the-variants.{Nothing, One}
@@ -82,97 +81,84 @@ pub answer-moves : (s : Resolver) (asking : Asking) (m : List ℕ) (end : ℕ) (
     → (r : Resolver) → r ≡ movedBy asking s (shown m owner f) → AnswerMoves s asking m end r
 unfolding onlyAnswer
 answer-moves s asking m end k a owner f b r e = record {
-  says = λ request seen w. e ∙ ap (movedBy asking s) (sym (ap answerIn (a .says (w .message) (w .says) (w .after) (w .within) (w .octets)) ∙ b .says));
+  says = λ q response w. e ∙ ap (movedBy asking s) (sym (ap answerIn (a .says q (w .says) (w .after) (w .within) (w .octets)) ∙ b .says));
 }
 
 -- ── Errors ──────────────────────────────────────────────────────────────────────────────────────────────────────────
 
-module _ (s : Resolver) (asking : Asking) (m : List ℕ) (end error : ℕ) (after : Resolver) (c : after ≡ closed s) (b : Bool) (is : b ≡ responseOf m) where
-  pub no-reply : b ≡ false → Accepts s asking m end error after
+module _ (s : Resolver) (asking : Asking) (m : List ℕ) (end : ℕ) (response : Bool) (error : ℕ) (after : Resolver) (c : after ≡ closed s) where
+  pub no-reply : response ≡ false → Accepts s asking m end response error after
   unfolding accepted
-  no-reply h = record { says = λ request seen w t e. c ∙ rw (w .response ∙ sym is ∙ h) refl }
+  no-reply h = record { says = λ q w t e. c ∙ rw (w .responds ∙ h) refl }
 
-  module _ (h : b ≡ true) (o : ℕ) (here : o ≡ getD m 3 0) where
-    pub bad-rcode : (o % 16 ≡ 0 → ⊥) → Accepts s asking m end error after
+  module _ (h : response ≡ true) (o : ℕ) (here : o ≡ getD m 3 0) where
+    pub bad-rcode : (o % 16 ≡ 0 → ⊥) → Accepts s asking m end response error after
     unfolding accepted rcodeOf
-    bad-rcode k = record { says = λ request seen w t e. c ∙ rw (w .response ∙ sym is ∙ h, ← here, ne-eqb (o % 16) 0 k) refl }
+    bad-rcode k = record { says = λ q w t e. c ∙ rw (w .responds ∙ h, ← here, ne-eqb (o % 16) 0 k) refl }
 
     module _ (k : o % 16 ≡ 0) where
-      pub bad-tsig : (error ≡ 0 → ⊥) → Accepts s asking m end error after
+      pub bad-tsig : (error ≡ 0 → ⊥) → Accepts s asking m end response error after
       unfolding accepted rcodeOf
-      bad-tsig j = record {
-        says = λ request seen w t e. c ∙ rw (w .response ∙ sym is ∙ h, ← here, eq-eqb (o % 16) 0 k, e, ne-eqb error 0 j) refl;
-      }
+      bad-tsig j = record { says = λ q w t e. c ∙ rw (w .responds ∙ h, ← here, eq-eqb (o % 16) 0 k, e, ne-eqb error 0 j) refl }
 
-      pub no-error : error ≡ 0 → (r : Resolver) → AnswerMoves after asking m end r → Accepts s asking m end error r
+      pub no-error : error ≡ 0 → (r : Resolver) → AnswerMoves after asking m end r → Accepts s asking m end response error r
       unfolding accepted rcodeOf
       no-error j r a = record {
-        says = λ request seen w t e.
-            a .says request seen w ∙ rw (c, w .response ∙ sym is ∙ h, ← here, eq-eqb (o % 16) 0 k, e, eq-eqb error 0 j) refl;
+        says = λ q w t e. a .says q response w ∙ rw (c, w .responds ∙ h, ← here, eq-eqb (o % 16) 0 k, e, eq-eqb error 0 j) refl;
       }
 
-pub hears : (s : Resolver) (asking : Asking) (m : List ℕ) (end error : ℕ) (r : Resolver) → Accepts s asking m end error r
-    → Hears s asking m end error (record { number = 0; due = eqb error 3841; state = r })
+pub hears : (s : Resolver) (asking : Asking) (m : List ℕ) (end : ℕ) (response : Bool) (error : ℕ) (r : Resolver) → Accepts s asking m end response error r
+    → Hears s asking m end response error (record { number = 0; due = eqb error 3841; state = r })
 unfolding heard partialRevoke
-hears s asking m end error r a = record { says = λ request seen w t e. rw (a .says request seen w t e, e) refl }
+hears s asking m end response error r a = record { says = λ q w t e. rw (a .says q w t e, e) refl }
 
 -- ── Checks ──────────────────────────────────────────────────────────────────────────────────────────────────────────
 
-module _ (s : Resolver) (asking : Asking) (good : Bool) (m : List ℕ) (end : ℕ) (sign : Kept) (g : Signer) (q : SignatureRead m sign g) (r : Heard) where
-  signs : (request : Bool) (seen : Seen) (w : WholeRead m end request seen) → seen .sign ≡ sign → (x : Signer) → g ≡ x
-      → signature (w .message .records) ≡ signerShown m x
-  signs request seen w e x h = w .signing ∙ ap (signatureAt m) e ∙ q .says ∙ ap (signerShown m) h
-
-  pub by-nobody : g ≡ Nobody → r ≡ unheard s 3 → HearsSigned s asking good m end sign r
+module _ (s : Resolver) (asking : Asking) (good : Bool) (m : List ℕ) (end : ℕ) (response : Bool) (g : Signer) (r : Heard) where
+  pub by-nobody : g ≡ Nobody → r ≡ unheard s 3 → HearsSigned s asking good m end response g r
   unfolding UNSIGNED
-  by-nobody h i = record { says = λ request seen w e. i ∙ rw (signs request seen w e Nobody h) refl }
+  by-nobody h i = record { says = λ q w. i ∙ rw h refl }
 
-  pub by-ill : g ≡ Ill → r ≡ unheard s 3 → HearsSigned s asking good m end sign r
+  pub by-ill : g ≡ Ill → r ≡ unheard s 3 → HearsSigned s asking good m end response g r
   unfolding UNSIGNED
-  by-ill h i = record { says = λ request seen w e. i ∙ rw (signs request seen w e Ill h) refl }
+  by-ill h i = record { says = λ q w. i ∙ rw h refl }
 
   module _ (place : ℕ) (t : TsigFields) (h : g ≡ Key place t) where
-    pub by-verdict : good ≡ false → r ≡ unheard s 3 → HearsSigned s asking good m end sign r
+    pub by-verdict : good ≡ false → r ≡ unheard s 3 → HearsSigned s asking good m end response g r
     unfolding UNSIGNED
-    by-verdict v i = record { says = λ request seen w e. i ∙ rw (signs request seen w e (Key place t) h, v) refl }
+    by-verdict v i = record { says = λ q w. i ∙ rw (h, v) refl }
 
-    pub by-signed : good ≡ true → Hears s asking m end (t .error) r → HearsSigned s asking good m end sign r
-    by-signed v i = record {
-      says = λ request seen w e. i .says request seen w (tsigFrom m (nameStanding m place) t) refl ∙ rw (signs request seen w e (Key place t) h, v) refl;
-    }
+    pub by-signed : good ≡ true → Hears s asking m end response (t .error) r → HearsSigned s asking good m end response g r
+    by-signed v i = record { says = λ q w. i .says q w (tsigFrom m (nameStanding m place) t) refl ∙ rw (h, v) refl }
 
-module _ (s : Resolver) (good : Bool) (m : List ℕ) (end : ℕ) (seen : Seen) (r : Heard) where
-  pub lost : s .awaited ≡ NoRequest → r ≡ unheard s 1 → HearsAwaited s good m end seen r
+module _ (s : Resolver) (good : Bool) (m : List ℕ) (end : ℕ) (response : Bool) (g : Signer) (r : Heard) where
+  pub lost : s .awaited ≡ NoRequest → r ≡ unheard s 1 → HearsAwaited s good m end response g r
   unfolding LOST
-  lost h i = record { says = λ request w. i ∙ rw h refl }
+  lost h i = record { says = λ q w e. i ∙ rw h refl }
 
   module _ (id : ℕ) (asking : Asking) (h : s .awaited ≡ Sent id asking) (x : ℕ) (is : x ≡ u16At m 0) where
-    pub wrong-id : (x ≡ id → ⊥) → r ≡ unheard s 2 → HearsAwaited s good m end seen r
+    pub wrong-id : (x ≡ id → ⊥) → r ≡ unheard s 2 → HearsAwaited s good m end response g r
     unfolding WRONGID
-    wrong-id k i = record { says = λ request w. i ∙ rw (h, w .id ∙ sym is, ne-eqb x id k) refl }
+    wrong-id k i = record { says = λ q w e. i ∙ rw (h, w .id ∙ sym is, ne-eqb x id k) refl }
 
-    pub right-id : x ≡ id → HearsSigned s asking good m end (seen .sign) r → HearsAwaited s good m end seen r
-    right-id k i = record { says = λ request w. i .says request seen w refl ∙ rw (h, w .id ∙ sym is, eq-eqb x id k) refl }
+    pub right-id : x ≡ id → HearsSigned s asking good m end response g r → HearsAwaited s good m end response g r
+    right-id k i = record { says = λ q w e. i .says q w ∙ rw (h, w .id ∙ sym is, eq-eqb x id k, e) refl }
 
-module _ (s : Resolver) (good : Bool) (m : List ℕ) (r : Heard) where
-  bad-size : sizeOk m ≡ false → r ≡ unheard s 4 → r ≡ readReply s good m
+module _ (s : Resolver) (good : Bool) (m : List ℕ) (o : Reading) (q : ReadAs m o) where
+  pub bad-size : o ≡ Size → (r : Heard) → r ≡ unheard s 4 → r ≡ readReply s good m
   unfolding readReply FORMAT
-  bad-size h i = i ∙ rw h refl
+  bad-size e r i = i ∙ rw (subst (ReadAs m) e q) refl
 
-  pub too-short : length m < 12 → r ≡ unheard s 4 → r ≡ readReply s good m
-  too-short h = bad-size (size-short m h)
+  pub ill-formed : (place : ℕ) → o ≡ Broken place → (r : Heard) → r ≡ unheard s 4 → r ≡ readReply s good m
+  unfolding readReply FORMAT
+  ill-formed place e r i = let x : (sizeOk m ≡ true) × (readMessage m ≡ stops place) = subst (ReadAs m) e q in i ∙ rw (x .0, x .1) refl
 
-  pub too-long : 65535 < length m → r ≡ unheard s 4 → r ≡ readReply s good m
-  too-long h = bad-size (size-long m h)
+  pub well-formed : (c : Contents) → o ≡ Whole c → (r : Heard) → HearsAwaited s good m (c .end) (c .response) (c .signer) r → r ≡ readReply s good m
+  unfolding readReply
+  well-formed c e r i =
+      let x : ContentsRead m c = subst (ReadAs m) e q in
+      i .says (x .message) (record { says = x .says; after = x .after; within = x .within; octets = x .octets; id = x .id; responds = x .response }) (x .signing)
+      ∙ rw (x .sized, x .says) refl
 
-  module _ (low : 12 ≤ length m) (high : length m ≤ 65535) where
-    pub ill-formed : (o : Outline) → Scanned m o → (p : ℕ) → o ≡ Bad p → r ≡ unheard s 4 → r ≡ readReply s good m
-    unfolding readReply FORMAT
-    ill-formed o q p e i = let h : readMessage m ≡ stops p = rw e at q in i ∙ rw (size-fits m low high, h) refl
-
-    pub well-formed : (o : Outline) → Scanned m o → (end : ℕ) (request : Bool) (seen : Seen) → o ≡ Whole end request seen
-        → HearsAwaited s good m end seen r → r ≡ readReply s good m
-    unfolding readReply
-    well-formed o q end request seen e i =
-        let w : WholeRead m end request seen = rw e at q in
-        i .says request w ∙ rw (size-fits m low high, w .says) refl
+pub whole-from : (m : List ℕ) {o : Reading} {c : Contents} → ReadAs m o → o ≡ Whole c → 12 ≤ length m
+whole-from m {c = c} q e = let x : ContentsRead m c = subst (ReadAs m) e q in omega arith

@@ -1,6 +1,6 @@
--- What the steps of reading a reply say, of whatever message the octets m are: `end` is where its questions end, `seen` what a scan kept of its records.
+-- What the steps of reading a reply say, of whatever message the octets m are: `end` is where its questions end, and `signer` says how it is signed.
 -- Assumes nothing.
-use Prim.Native.Nat.{ℕ}
+use Prim.Native.Nat.{ℕ, _-_, _≤_}
 use mathlib.Core.Path.{_≡_}
 use mathlib.Core.Bool.{Bool, false}
 use mathlib.Core.List.{List}
@@ -11,12 +11,12 @@ use Rattle.model.specs.declared.Holding.the-variants.{AdoptedAndOffered, Adopte
 use Rattle.model.specs.declared.Asking.{Asking}
 use Rattle.model.specs.declared.Resolver.{Resolver}
 use Rattle.model.specs.declared.Heard.{Heard}
-use Rattle.model.specs.Octets.{put}
+use Rattle.model.specs.Octets.{put, u16At, part, reads}
+use Rattle.model.specs.Messages.{Message, readMessage}
 use Rattle.model.specs.Tsig.{Tsig, signature}
 use Rattle.model.specs.Resolver.{onlyAnswer, movedBy, accepted, heard, signedReply, awaitedReply}
-use Rattle.messages.specs.declared.Kept.{Kept}
-use Rattle.messages.specs.declared.Seen.{Seen}
-use Rattle.messages.specs.Scan.{WholeRead}
+use Rattle.tsig.specs.declared.Signer.{Signer}
+use Rattle.tsig.specs.Signature.{shown as signerShown}
 
 -- A key by its name and its other fields.
 abbrev pub keyFrom : List ℕ → Algorithm → ℕ → ℕ → ResolverKey
@@ -30,21 +30,31 @@ offering s k = record { holding = AdoptedAndOffered; adopted = s .adopted; offer
 abbrev pub adopting : Resolver → Resolver
 adopting s = record { holding = Adopted; adopted = s .offered; offered = s .offered; awaited = s .awaited; «offered_signs» = s .«offered_signs» }
 
+-- What the steps know of the message q that the octets m are: its questions end at `end`, and whether it is a response.
+pub record MessageRead (m : List ℕ) (q : Message) (end : ℕ) (response : Bool) : Type 0 where
+  pub says : readMessage m ≡ reads q (length m)
+  pub after : 12 ≤ end
+  pub within : end ≤ length m
+  pub octets : q .questionOctets ≡ part m 12 (end - 12)
+  pub id : q .id ≡ u16At m 0
+  pub responds : q .response ≡ response
+
 pub record AnswerMoves (s : Resolver) (asking : Asking) (m : List ℕ) (end : ℕ) (r : Resolver) : Type 0 where
-  pub says : (request : Bool) (seen : Seen) (w : WholeRead m end request seen) → r ≡ movedBy asking s (onlyAnswer (w .message))
+  pub says : (q : Message) (response : Bool) → MessageRead m q end response → r ≡ movedBy asking s (onlyAnswer q)
 
 -- The same with the header's RCODE and a TSIG with this error looked at.
-pub record Accepts (s : Resolver) (asking : Asking) (m : List ℕ) (end error : ℕ) (r : Resolver) : Type 0 where
-  pub says : (request : Bool) (seen : Seen) (w : WholeRead m end request seen) (t : Tsig) → t .error ≡ error → r ≡ accepted s asking m (w .message) t
+pub record Accepts (s : Resolver) (asking : Asking) (m : List ℕ) (end : ℕ) (response : Bool) (error : ℕ) (r : Resolver) : Type 0 where
+  pub says : (q : Message) → MessageRead m q end response → (t : Tsig) → t .error ≡ error → r ≡ accepted s asking m q t
 
-pub record Hears (s : Resolver) (asking : Asking) (m : List ℕ) (end error : ℕ) (r : Heard) : Type 0 where
-  pub says : (request : Bool) (seen : Seen) (w : WholeRead m end request seen) (t : Tsig) → t .error ≡ error → r ≡ heard s asking m (w .message) t
+pub record Hears (s : Resolver) (asking : Asking) (m : List ℕ) (end : ℕ) (response : Bool) (error : ℕ) (r : Heard) : Type 0 where
+  pub says : (q : Message) → MessageRead m q end response → (t : Tsig) → t .error ≡ error → r ≡ heard s asking m q t
 
-pub record HearsSigned (s : Resolver) (asking : Asking) (good : Bool) (m : List ℕ) (end : ℕ) (sign : Kept) (r : Heard) : Type 0 where
+pub record HearsSigned (s : Resolver) (asking : Asking) (good : Bool) (m : List ℕ) (end : ℕ) (response : Bool) (signer : Signer) (r : Heard) : Type 0 where
+  pub says : (q : Message) → MessageRead m q end response → r ≡ signedReply s asking m q good (signerShown m signer)
+
+pub record HearsAwaited (s : Resolver) (good : Bool) (m : List ℕ) (end : ℕ) (response : Bool) (signer : Signer) (r : Heard) : Type 0 where
   pub says :
-      (request : Bool) (seen : Seen) (w : WholeRead m end request seen)
-      → seen .sign ≡ sign
-      → r ≡ signedReply s asking m (w .message) good (signature (w .message .records))
-
-pub record HearsAwaited (s : Resolver) (good : Bool) (m : List ℕ) (end : ℕ) (seen : Seen) (r : Heard) : Type 0 where
-  pub says : (request : Bool) (w : WholeRead m end request seen) → r ≡ awaitedReply s (s .awaited) m good (w .message)
+      (q : Message)
+      → MessageRead m q end response
+      → signature (q .records) ≡ signerShown m signer
+      → r ≡ awaitedReply s (s .awaited) m good q

@@ -2,9 +2,7 @@
 // are equations with the crate model's Resolver.
 use answers::AnswerFields;
 use answers::AnswerFound;
-use messages::Kept;
-use messages::Outline;
-use messages::Seen;
+use contents::Reading;
 use model::Algorithm;
 use model::Asking;
 use model::Heard;
@@ -232,13 +230,20 @@ fn moved_in(s: Resolver, asking: Asking, m: &[u8], end: usize) -> Resolver
 
 // ── Reading a reply ─────────────────────────────────────────────────────────────────────────────────────────────────
 
-// Closes the request. Only a reply with no error in its header and in its TSIG, which is `error`, moves more.
-fn accept(s: Resolver, asking: Asking, m: &[u8], end: usize, error: usize) -> Resolver
+// Closes the request. Only a response with no error in its header and in its TSIG, which is `error`, moves more.
+fn accept(
+    s: Resolver,
+    asking: Asking,
+    m: &[u8],
+    end: usize,
+    response: bool,
+    error: usize,
+) -> Resolver
     requires { ⌜ 12 ≤ length (now m) ⌝ }
-    ensures { λ r. ⌜ Accepts s asking (now (m .entry)) end error r ⌝ }
+    ensures { λ r. ⌜ Accepts s asking (now (m .entry)) end response error r ⌝ }
 {
     let after = close_request(s);
-    if !records::is_response(m) {
+    if !response {
         return after;
     }
     if octets::wide(m[3]) % 16 != 0 {
@@ -251,11 +256,11 @@ fn accept(s: Resolver, asking: Asking, m: &[u8], end: usize, error: usize) -> Re
 }
 
 // A reply past the checks, with this TSIG error; PartialRevoke says that renewal is due.
-fn hear(s: Resolver, asking: Asking, m: &[u8], end: usize, error: usize) -> Heard
+fn hear(s: Resolver, asking: Asking, m: &[u8], end: usize, response: bool, error: usize) -> Heard
     requires { ⌜ 12 ≤ length (now m) ⌝ }
-    ensures { λ r. ⌜ Hears s asking (now (m .entry)) end error r ⌝ }
+    ensures { λ r. ⌜ Hears s asking (now (m .entry)) end response error r ⌝ }
 {
-    let state = accept(s, asking, m, end, error);
+    let state = accept(s, asking, m, end, response, error);
     Heard {
         number: 0,
         due: error == 3841,
@@ -273,27 +278,42 @@ fn refuse_reply(s: Resolver, number: u64) -> Heard
     }
 }
 
-// UNSIGNED, by what a scan kept of the TSIG, and by the verdict.
-fn hear_signed(s: Resolver, asking: Asking, good: bool, m: &[u8], end: usize, sign: Kept) -> Heard
+// UNSIGNED, by how the message is signed, and by the verdict.
+fn hear_signed(
+    s: Resolver,
+    asking: Asking,
+    good: bool,
+    m: &[u8],
+    end: usize,
+    response: bool,
+    signer: Signer,
+) -> Heard
     requires { ⌜ 12 ≤ length (now m) ⌝ }
-    ensures { λ r. ⌜ HearsSigned s asking good (now (m .entry)) end sign r ⌝ }
+    ensures { λ r. ⌜ HearsSigned s asking good (now (m .entry)) end response signer r ⌝ }
 {
-    match tsig::signed_by(m, sign) {
+    match signer {
         Signer::Nobody => refuse_reply(s, 3),
         Signer::Ill => refuse_reply(s, 3),
         Signer::Key { place: _, fields } => {
             if !good {
                 return refuse_reply(s, 3);
             }
-            hear(s, asking, m, end, fields.error)
+            hear(s, asking, m, end, response, fields.error)
         }
     }
 }
 
 // LOST, WRONGID, then as above.
-fn hear_awaited(s: Resolver, good: bool, m: &[u8], end: usize, seen: Seen) -> Heard
+fn hear_awaited(
+    s: Resolver,
+    good: bool,
+    m: &[u8],
+    end: usize,
+    response: bool,
+    signer: Signer,
+) -> Heard
     requires { ⌜ 12 ≤ length (now m) ⌝ }
-    ensures { λ r. ⌜ HearsAwaited s good (now (m .entry)) end seen r ⌝ }
+    ensures { λ r. ⌜ HearsAwaited s good (now (m .entry)) end response signer r ⌝ }
 {
     let awaited = s.awaited;
     match awaited {
@@ -303,8 +323,7 @@ fn hear_awaited(s: Resolver, good: bool, m: &[u8], end: usize, seen: Seen) -> He
             if answered != id {
                 return refuse_reply(s, 2);
             }
-            let sign = seen.sign;
-            hear_signed(s, asking, good, m, end, sign)
+            hear_signed(s, asking, good, m, end, response, signer)
         }
     }
 }
@@ -313,18 +332,12 @@ fn hear_awaited(s: Resolver, good: bool, m: &[u8], end: usize, seen: Seen) -> He
 pub fn read_reply(s: Resolver, good: bool, m: &[u8]) -> Heard
     ensures { λ r. ⌜ r ≡ readReply s good (now (m .entry)) ⌝ }
 {
-    if m.len() < 12 {
-        return refuse_reply(s, 4);
-    }
-    if 65535 < m.len() {
-        return refuse_reply(s, 4);
-    }
-    match messages::scan(m) {
-        Outline::Bad(_) => refuse_reply(s, 4),
-        Outline::Whole {
-            end,
-            request: _,
-            seen,
-        } => hear_awaited(s, good, m, end, seen),
+    match contents::read(m) {
+        Reading::Size => refuse_reply(s, 4),
+        Reading::Broken { place: _ } => refuse_reply(s, 4),
+        Reading::Whole(c) => {
+            let signer = c.signer;
+            hear_awaited(s, good, m, c.end, c.response, signer)
+        }
     }
 }

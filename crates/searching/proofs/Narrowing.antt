@@ -1,15 +1,17 @@
 -- The search narrows: every place below `low` has a lower suffix than the name, every place from `high` on a higher one, and what lies between halves with
 -- each comparison. Assumes nothing.
 use Prim.Native.Nat.{ℕ, zero, suc, _+_, _-_, _*_, _/_, _^_, _≤_, _<_}
-use mathlib.Core.Bool.{false}
+use mathlib.Core.Bool.{Bool, true, false, cond}
 use mathlib.Core.List.{List}
 use mathlib.Core.Option.{Option, none, some}
 use mathlib.Core.Path.{_≡_, refl, sym, ap, _∙_}
 use native.Mathlib.Decide.{decLt}
 use native.Mathlib.Nat.{pow-suc}
 use native.Mathlib.Omega.{arith}
+use lib.Dec.{ltb}
+use borrow.Author.Tests.{lt-ltb, le-ltb}
 use Rattle.model.specs.Names.{sameName}
-use Rattle.model.specs.Paper.Tables.{namesOf, rowNamed}
+use Rattle.model.specs.Tables.{namesOf, rowNamed}
 use Rattle.ordering.specs.declared.Ordering.{Ordering}
 use Rattle.ordering.specs.declared.Ordering.the-variants.{Less, Equal, Greater}
 use Rattle.ordering.specs.Order.{orderOf, isEqual}
@@ -19,7 +21,7 @@ use Rattle.store.proofs.Laid.{Laid, lays, ascends, shown}
 use Rattle.store.proofs.Listed.{names-laid, named-none, named-some}
 use Rattle.searching.specs.declared.Found.{Found}
 use Rattle.searching.specs.declared.Found.the-variants.{Row, Missing}
-use Rattle.searching.specs.Search.{Sought}
+use Rattle.searching.specs.Search.{byOrder, halved, Sought}
 
 order-of-two : (p q : ℕ) → (p < q → ⊥) → (p ≡ q → ⊥) → q < p
 order-of-two p q l e = omega arith
@@ -56,6 +58,24 @@ pub record Narrowed (w s name : List ℕ) (low high left : ℕ) : Type 0 where
   pub few : high < low + 2 ^ left
   pub below : (q : ℕ) → q < low → orderOf (suffixIn w s q) name ≡ Less
   pub above : (q : ℕ) → high ≤ q → q < countOf w → orderOf (suffixIn w s q) name ≡ Greater
+  pub turns : halved w (λ q. orderOf (suffixIn w s q) name) left low high ≡ halved w (λ q. orderOf (suffixIn w s q) name) 7 0 (countOf w)
+
+-- One turn, and none.
+turn :
+    (w : List ℕ) (order : ℕ → Ordering) (left low high m : ℕ) {o : Ordering}
+    → 1 ≤ left
+    → low < high
+    → m ≡ low + (high - low) / 2
+    → order m ≡ o
+    → halved w order left low high ≡ byOrder o (halved w order (left - 1) (m + 1) high) (Row (rowIn w m)) (halved w order (left - 1) low m)
+unfolding halved
+turn w order zero low high m l h e t = absurd (omega arith)
+turn w order (suc k) low high m l h e t = let z : suc k - 1 ≡ k = omega arith in rw (z, lt-ltb low high h, ← e, t) refl
+
+no-turn : (w : List ℕ) (order : ℕ → Ordering) (left low high : ℕ) → high ≤ low → halved w order left low high ≡ Missing low
+unfolding halved
+no-turn w order zero low high h = refl
+no-turn w order (suc k) low high h = rw (le-ltb low high h) refl
 
 module _ {w s : List ℕ} (l : Laid w s) (name : List ℕ) where
   pub narrow-first : Narrowed w s name 0 (countOf w) 7
@@ -65,6 +85,7 @@ module _ {w s : List ℕ} (l : Laid w s) (name : List ℕ) where
     few = omega (arith, l .few);
     below = λ q h. absurd (omega arith);
     above = λ q h g. absurd (omega arith);
+    turns = refl;
   }
 
   module _ {low high left : ℕ} (n : Narrowed w s name low high left) (more : low < high) where
@@ -82,6 +103,7 @@ module _ {w s : List ℕ} (l : Laid w s) (name : List ℕ) where
         few = omega (arith, upper-half low high left more (n .few));
         below = λ q h. go q h (decLt q m);
         above = n .above;
+        turns = sym (turn w _ left low high m one-left more middle o) ∙ n .turns;
       }
         where
           go : (q : ℕ) → q < m + 1 → Dec (q < m) → orderOf (suffixIn w s q) name ≡ Less
@@ -95,6 +117,7 @@ module _ {w s : List ℕ} (l : Laid w s) (name : List ℕ) where
         few = omega (arith, lower-half low high left more (n .few));
         below = n .below;
         above = λ q h g. go q h g (decLt m q);
+        turns = sym (turn w _ left low high m one-left more middle o) ∙ n .turns;
       }
         where
           go : (q : ℕ) → m ≤ q → q < countOf w → Dec (m < q) → orderOf (suffixIn w s q) name ≡ Greater
@@ -143,13 +166,20 @@ module _ {w s : List ℕ} (l : Laid w s) (name : List ℕ) where
   its-names = ap namesOf (shown w s (lays w s l))
 
   -- as the code answers
-  pub sought-row : (m : ℕ) → m < countOf w → orderOf (suffixIn w s m) name ≡ Equal → {n : ℕ} → n ≡ rowIn w m → Sought w s name (Row n)
-  sought-row m h o e = record { says = ap (λ (ns : List (List ℕ)). rowNamed ns name) its-names ∙ found-at m h o ∙ ap some (sym e); gap = λ g q. let z : _≡_ {A = ℕ} 0 1 = cc in absurd (omega arith) }
+  pub sought-row :
+      {low high left : ℕ} (n : Narrowed w s name low high left) → low < high → (m : ℕ) → m ≡ low + (high - low) / 2
+      → orderOf (suffixIn w s m) name ≡ Equal → {i : ℕ} → i ≡ rowIn w m → Sought w s name (Row i)
+  sought-row {low} {high} {left} n more m middle o e = record {
+    says = ap (λ (ns : List (List ℕ)). rowNamed ns name) its-names ∙ found-at m (inside n more m middle) o ∙ ap some (sym e);
+    gap = λ g q. let z : _≡_ {A = ℕ} 0 1 = cc in absurd (omega arith);
+    seven = ap {B = Found} (λ (i : ℕ). Row i) e ∙ sym (turn w _ left low high m (one-left n more) more middle o) ∙ n .turns;
+  }
 
   pub sought-missing : {low high left : ℕ} → Narrowed w s name low high left → high ≤ low → Sought w s name (Missing low)
-  sought-missing {low} {high} n e = record {
+  sought-missing {low} {high} {left} n e = record {
     says = ap (λ (ns : List (List ℕ)). rowNamed ns name) its-names ∙ found-nowhere n e;
     gap = λ g q. rw (← same q) (record { within = omega (arith, n .within, n .between); below = n .below; above = λ r h k. n .above r (omega arith) k });
+    seven = sym (no-turn w _ left low high e) ∙ n .turns;
   }
     where
       same : {g : ℕ} → _≡_ {A = Found} (Missing low) (Missing g) → low ≡ g

@@ -1,3 +1,2 @@
--- Laws that the proofs of this crate share.
-pub mod Numbers
-pub mod MessageLaws
+-- The laws that proofs of this crate cite.
+pub mod Laws

@@ -1,93 +1,63 @@
 -- Each way that the refusals before the writing end. Assumes nothing.
 use Prim.Native.Nat.{ℕ, _≤_, _<_, _^_}
-use mathlib.Core.Path.{_≡_, refl, _∙_}
-use mathlib.Core.Bool.{Bool, true, false, cond, _&&_}
-use mathlib.Core.Option.{Option, none, some}
+use mathlib.Core.Path.{_≡_, refl, ap, subst, _∙_}
+use mathlib.Core.Bool.{true, false, _&&_}
 use mathlib.Core.List.{List}
 use native.Mathlib.Omega.{arith}
 use borrow.Author.Tests.{lt-ltb, le-ltb, eq-eqb, ne-eqb}
-use lib.Dec.{eqb, ltb}
+use lib.Dec.{ltb}
 use lib.ListN.{length}
-use Rattle.model.specs.Octets.{Reading, stops, reads}
+use Rattle.model.specs.Octets.{stops}
 use Rattle.model.specs.Names.{wireName}
-use Rattle.model.specs.Messages.{Record, recordAt}
-use Rattle.model.specs.Tsig.{Tsig, misplaced, wellFormed, tsigOf}
+use Rattle.model.specs.Messages.{readMessage}
+use Rattle.model.specs.Tsig.{signature}
 use Rattle.model.specs.Checks.{check}
 use Rattle.model.specs.Calls.{TIME, SIZE, FORMAT, NAME, sizeOk}
 use Rattle.model.specs.Signing.{Stamp, Assembled, unassembled, isUnsigned, signable}
 use Rattle.names.proofs.Wire.{wire-short}
-use Rattle.messages.specs.declared.Kept.{Kept}
-use Rattle.messages.specs.declared.Kept.the-variants.{Never, Once, More}
-use Rattle.messages.specs.declared.Seen.{Seen}
-use Rattle.messages.specs.declared.Outline.{Outline}
-use Rattle.messages.specs.declared.Outline.the-variants.{Bad, Whole}
-use Rattle.messages.proofs.Sizes.{size-short, size-long, size-fits}
-use Rattle.messages.proofs.Outlines.{scan-bad, scan-whole}
-use Rattle.messages.specs.Scan.{signedBy, signatureAt, WholeRead, Scanned}
+use Rattle.messages.proofs.Sizes.{size-most}
+use Rattle.tsig.specs.declared.Signer.{Signer}
+use Rattle.tsig.specs.declared.Signer.the-variants.{Nobody}
+use Rattle.tsig.specs.Signature.{shown}
+use Rattle.contents.specs.declared.Contents.{Contents}
+use Rattle.contents.specs.declared.Reading.{Reading}
+use Rattle.contents.specs.declared.Reading.the-variants.{Size, Broken, Whole}
+use Rattle.contents.specs.Contents.{ContentsRead, ReadAs}
 use Rattle.signing.specs.Assembling.{Bare, Passes}
 use Rattle.signing.proofs.Counts.{counts-one-more}
 
--- ── No TSIG ─────────────────────────────────────────────────────────────────────────────────────────────────────────
-
-formed : (t : Option Tsig) → false ≡ isUnsigned (wellFormed t)
-formed none = refl
-formed (some t) = refl
-
-placed : (b : Bool) (r : Reading Record) → false ≡ isUnsigned (cond b (signedBy r) misplaced)
-placed true (stops place) = refl
-placed true (reads r next) = formed (tsigOf r)
-placed false r = refl
-
-module _ (k : Kept) (m : List ℕ) where
-  pub bare-never : k ≡ Never → true ≡ isUnsigned (signatureAt m k)
-  bare-never e = rw e refl
-
-  pub bare-once : (section place : ℕ) → k ≡ Once section place → false ≡ isUnsigned (signatureAt m k)
-  bare-once section place e = rw e (placed (eqb section 3) (recordAt m section place))
-
-  pub bare-more : k ≡ More → false ≡ isUnsigned (signatureAt m k)
-  bare-more e = rw e refl
-
 -- ── SIZE and FORMAT ─────────────────────────────────────────────────────────────────────────────────────────────────
 
-module _ (m : List ℕ) where
-  missized : sizeOk m ≡ false → Bare m 4
+module _ (m : List ℕ) (r : Reading) (q : ReadAs m r) where
+  pub missized : r ≡ Size → Bare m 4
   unfolding SIZE
-  missized e = record { says = λ next. rw e refl; sized = λ z. absurd (omega arith) }
+  missized e = let x : sizeOk m ≡ false = subst (ReadAs m) e q in record { says = λ next. rw x refl; sized = λ z. absurd (omega arith) }
 
-  pub too-short : length m < 12 → Bare m 4
-  too-short h = missized (size-short m h)
+  pub ill-formed : (place : ℕ) → r ≡ Broken place → Bare m 6
+  unfolding FORMAT
+  ill-formed place e =
+      let x : (sizeOk m ≡ true) × (readMessage m ≡ stops place) = subst (ReadAs m) e q in
+      record { says = λ next. rw (x .0, x .1) refl; sized = λ z. absurd (omega arith) }
 
-  pub too-long : 65535 < length m → Bare m 4
-  too-long h = missized (size-long m h)
+  module _ (c : Contents) (e : r ≡ Whole c) where
+    whole : ContentsRead m c
+    whole = subst (ReadAs m) e q
 
-  module _ (from : 12 ≤ length m) (to : length m ≤ 65535) where
-    fits : sizeOk m ≡ true
-    fits = size-fits m from to
+    signs : (s : Signer) → c .signer ≡ s → signature (whole .message .records) ≡ shown m s
+    signs s i = whole .signing ∙ ap (shown m) i
 
-    pub ill-formed : (r : Outline) (place : ℕ) → Scanned m r → r ≡ Bad place → Bare m 6
+    pub signed-already : (s : Signer) → c .signer ≡ s → isUnsigned (shown m s) ≡ false → Bare m 6
     unfolding FORMAT
-    ill-formed r place s e =
-        let stopped = scan-bad m s e in
-        record { says = λ next. rw (fits, stopped) refl; sized = λ z. absurd (omega arith) }
+    signed-already s i f = record { says = λ next. rw (whole .sized, whole .says, signs s i, f) refl; sized = λ z. absurd (omega arith) }
 
-    module _ (r : Outline) (end : ℕ) (request : Bool) (seen : Seen) (s : Scanned m r) (e : r ≡ Whole end request seen) where
-      whole : WholeRead m end request seen
-      whole = scan-whole m s e
-
-      pub signed-already : false ≡ isUnsigned (signatureAt m (seen .sign)) → Bare m 6
-      unfolding FORMAT
-      signed-already f =
-          let w = whole in
-          record { says = λ next. rw (fits, w .says, w .signing, ← f) refl; sized = λ z. absurd (omega arith) }
-
-      pub unsigned-yet : true ≡ isUnsigned (signatureAt m (seen .sign)) → Bare m 0
-      unsigned-yet t =
-          let w = whole in
-          record {
-            says = λ next. rw (fits, w .says, w .signing, ← t) refl;
-            sized = λ z. record { from = from; to = to; counted = counts-one-more m (w .message) (length m) (w .says) to };
-          }
+    pub unsigned-yet : c .signer ≡ Nobody → Bare m 0
+    unsigned-yet i =
+        let x = whole in
+        let to = size-most m (x .sized) in
+        record {
+          says = λ next. rw (x .sized, x .says, signs Nobody i) refl;
+          sized = λ z. record { from = omega arith; to = to; counted = counts-one-more m (x .message) (length m) (x .says) to };
+        }
 
 -- ── NAME and TIME ───────────────────────────────────────────────────────────────────────────────────────────────────
 

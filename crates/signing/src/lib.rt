@@ -1,18 +1,17 @@
 // The writing calls of CR 3 (02; RFC 8945, 4.2 and 4.3): the digest of a request and of a reply, and the finished message. Every value of every argument is
 // accepted. The contracts are equations with the crate model's Signing.
+use contents::Reading;
 use digests::Assembly;
 use digests::TsigNumbers;
-use messages::Kept;
-use messages::Outline;
+use tsig::Signer;
 ghost use mathlib.Core.Path.{_≡_};
 ghost use mathlib.Core.List.{List};
 ghost use Prim.Native.Nat.{ℕ, _+_, _≤_, _<_, _^_};
 ghost use lib.ListN.{length};
 ghost use Rattle.model.specs.Tsig.{tsigType, anyClass};
 ghost use Rattle.model.specs.Replies.{recordOctets};
-ghost use Rattle.model.specs.Signing.{tsigData, isUnsigned, digestedRequest, digestedReply, finishedIn};
+ghost use Rattle.model.specs.Signing.{tsigData, digestedRequest, digestedReply, finishedIn};
 ghost use Rattle.octets.specs.Wrote.{Wrote};
-ghost use Rattle.messages.specs.Scan.{signatureAt};
 ghost use Rattle.digests.specs.Stamps.{stampOf};
 ghost use Rattle.digests.specs.Left.{Left};
 ghost use Rattle.signing.specs.Assembling.{Sized, Bare, Fit, Passes, countedOctets};
@@ -22,42 +21,23 @@ const LONGEST_MAC: usize = 64;
 
 // ── Refusals ────────────────────────────────────────────────────────────────────────────────────────────────────────
 
-// FORMAT: whether no TSIG stands in a message of which a scan kept this.
-fn is_bare(sign: Kept) -> bool
-    ensures { λ r. ⌜ ((m : List ℕ) → r ≡ isUnsigned (signatureAt m sign)) ⌝ }
-{
-    match sign {
-        Kept::Never => true,
-        Kept::Once {
-            section: _,
-            place: _,
-        } => false,
-        Kept::More => false,
-    }
-}
-
-// SIZE, FORMAT of a message that is to be signed, or 0.
+// SIZE, FORMAT of a message that is to be signed, or 0: no TSIG may stand in it yet.
 fn message_refusal(m: &[u8]) -> u64
     ensures { λ r. ⌜ Bare (now (m .entry)) r ⌝ }
 {
-    if m.len() < 12 {
-        return 4;
-    }
-    if 65535 < m.len() {
-        return 4;
-    }
-    match messages::scan(m) {
-        Outline::Bad(_) => 6,
-        Outline::Whole {
-            end: _,
-            request: _,
-            seen,
-        } => {
-            let sign = seen.sign;
-            if is_bare(sign) {
-                return 0;
+    match contents::read(m) {
+        Reading::Size => 4,
+        Reading::Broken { place: _ } => 6,
+        Reading::Whole(c) => {
+            let signer = c.signer;
+            match signer {
+                Signer::Nobody => 0,
+                Signer::Ill => 6,
+                Signer::Key {
+                    place: _,
+                    fields: _,
+                } => 6,
             }
-            6
         }
     }
 }

@@ -22,8 +22,9 @@ use Rattle.digests.proofs.Ends.{refused, written}
 use Rattle.messages.specs.Scan.{LastAt}
 use Rattle.tsig.specs.declared.TsigFields.{TsigFields}
 use Rattle.tsig.specs.declared.Signer.the-variants.{Nobody, Ill, Key}
+use Rattle.contents.specs.Contents.{SignerLast}
 use Rattle.unsigning.specs.declared.TsigRead.{TsigRead}
-use Rattle.unsigning.specs.Unsigning.{tsigIn, SignerLast, BackRead, roomed}
+use Rattle.unsigning.specs.Unsigning.{tsigIn, BackRead, roomed}
 
 -- ── By what was read back ───────────────────────────────────────────────────────────────────────────────────────────
 

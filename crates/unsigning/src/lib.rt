@@ -1,8 +1,7 @@
 // A message's TSIG read back, and the message without it (02, CR 3; RFC 8945, 4.3.2). Every value of every argument is accepted. The contracts are equations
 // with the crate model's Signing.
+use contents::Reading;
 use digests::Assembly;
-use messages::Kept;
-use messages::Outline;
 use tsig::Signer;
 ghost use mathlib.Core.Path.{_≡_};
 ghost use Prim.Native.Nat.{_≤_};
@@ -12,7 +11,7 @@ ghost use Rattle.octets.specs.Wrote.{Wrote};
 ghost use Rattle.messages.specs.Scan.{LastAt};
 ghost use Rattle.tsig.specs.declared.Signer.the-variants as Signer;
 ghost use Rattle.digests.specs.Left.{Left};
-ghost use Rattle.unsigning.specs.Unsigning.{BackRead, ReadsKept, roomed};
+ghost use Rattle.unsigning.specs.Unsigning.{BackRead, roomed};
 
 // What reading back returns: its number, and the TSIG; `Nobody` where it is refused.
 pub struct TsigRead {
@@ -31,39 +30,23 @@ fn unread(number: u64) -> TsigRead
     }
 }
 
-// FORMAT where no TSIG is well placed, by what a scan kept of it.
-fn read_kept(m: &[u8], sign: Kept) -> TsigRead
-    ensures { λ r. ⌜ ReadsKept (now (m .entry)) sign r ⌝ }
-{
-    match tsig::signed_by(m, sign) {
-        Signer::Nobody => unread(6),
-        Signer::Ill => unread(6),
-        Signer::Key { place, fields } => TsigRead {
-            number: 0,
-            signer: Signer::Key { place, fields },
-        },
-    }
-}
-
-// The TSIG of the message m. Refused, in this order, with SIZE (4), FORMAT (6).
+// The TSIG of the message m. Refused, in this order, with SIZE (4), FORMAT (6), the latter too where no TSIG is well placed.
 pub fn read_back(m: &[u8]) -> TsigRead
     ensures { λ r. ⌜ BackRead (now (m .entry)) r ⌝ }
 {
-    if m.len() < 12 {
-        return unread(4);
-    }
-    if 65535 < m.len() {
-        return unread(4);
-    }
-    match messages::scan(m) {
-        Outline::Bad(_) => unread(6),
-        Outline::Whole {
-            end: _,
-            request: _,
-            seen,
-        } => {
-            let sign = seen.sign;
-            read_kept(m, sign)
+    match contents::read(m) {
+        Reading::Size => unread(4),
+        Reading::Broken { place: _ } => unread(6),
+        Reading::Whole(c) => {
+            let signer = c.signer;
+            match signer {
+                Signer::Nobody => unread(6),
+                Signer::Ill => unread(6),
+                Signer::Key {
+                    place: _,
+                    fields: _,
+                } => TsigRead { number: 0, signer },
+            }
         }
     }
 }

@@ -4,56 +4,166 @@
 #[path = "../../../../second/tests/desk/build.rs"]
 pub mod build;
 
-use luffcringle::Image;
-use second::{Algorithm, Key, Keys, Pair, Table};
+use luffcringle::{Octets, Table, View, Words, TABLE_OCTETS, TABLE_WORDS};
+use second::Algorithm;
 
-/// The first word of a row, for the pair's number, and words of a row.
-pub const fn row(pair: usize) -> usize {
-    2 + 32 * (pair - 1)
+// ---- The layout ----
+
+pub const CLOCK: usize = 0;
+pub const COUNT: usize = 1;
+pub const SPARE: usize = 2;
+pub const MAP: usize = 3;
+
+/// The first word of a place, and words of it.
+pub const fn row(place: usize) -> usize {
+    67 + 16 * place
 }
-pub const NEXT_SERIAL: usize = 3;
-pub const KEYS: usize = 4;
-pub const ADOPTED: usize = 5;
-pub const WAITING: usize = 10;
-pub const SPARE: usize = 15;
-pub const SUFFIX: usize = 16;
+pub const NUMBER: usize = 0;
+pub const LENGTH: usize = 1;
+pub const LIFETIME: usize = 2;
+pub const FRESH: usize = 3;
+pub const NEXT_SERIAL: usize = 4;
+pub const KEYS: usize = 5;
+pub const ADOPTED: usize = 6;
+pub const WAITING: usize = 11;
+pub const ROW_WORDS: usize = 16;
 
-/// The table that an image holds, by the layout in the header.
-pub fn table_of(image: &Image) -> Table {
-    let (rows, _) = image[2..].as_chunks::<32>();
-    Table {
-        clock: image[0],
-        pairs: rows[..image[1] as usize].iter().map(pair_of).collect(),
+/// The place of a pair, by its number.
+pub fn place(table: &Table, pair: u64) -> usize {
+    table.parts().0[MAP + pair as usize - 1] as usize
+}
+
+/// The first word of a pair, by its number.
+pub fn row_of(table: &Table, pair: u64) -> usize {
+    row(place(table, pair))
+}
+
+/// The same with other words and octets.
+pub fn edited(table: &Table, edit: impl FnOnce(&mut Words, &mut Octets)) -> Table {
+    let (mut words, mut suffixes) = (*table.parts().0, *table.parts().1);
+    edit(&mut words, &mut suffixes);
+    Table::from_parts(&words, &suffixes)
+}
+
+/// Which words and octets have a meaning.
+pub fn meaning(words: &Words) -> ([bool; TABLE_WORDS], [bool; TABLE_OCTETS]) {
+    let mut of_words = [false; TABLE_WORDS];
+    let mut of_octets = [false; TABLE_OCTETS];
+    let count = words[COUNT] as usize;
+    of_words[CLOCK..=COUNT].fill(true);
+    of_words[MAP..][..count].fill(true);
+    for place in 0..count {
+        let from = row(place);
+        let used = [ADOPTED, WAITING, ROW_WORDS][words[from + KEYS] as usize];
+        of_words[from..][..used].fill(true);
+        of_octets[128 * place..][..words[from + LENGTH] as usize].fill(true);
+    }
+    (of_words, of_octets)
+}
+
+/// The same table with other junk where nothing has a meaning.
+pub fn with_junk(table: &Table, random: &mut Random) -> Table {
+    let (of_words, of_octets) = meaning(table.parts().0);
+    edited(table, |words, suffixes| {
+        for (word, _) in words.iter_mut().zip(of_words).filter(|(_, used)| !used) {
+            *word = random.word();
+        }
+        for (octet, _) in suffixes.iter_mut().zip(of_octets).filter(|(_, used)| !used) {
+            *octet = random.next() as u8;
+        }
+    })
+}
+
+/// The words that differ.
+pub fn changed(before: &Table, after: &Table) -> Vec<usize> {
+    let (before, after) = (before.parts().0, after.parts().0);
+    (0..TABLE_WORDS)
+        .filter(|&word| before[word] != after[word])
+        .collect()
+}
+
+// ---- Chance ----
+
+/// Numbers that look like chance (splitmix64).
+pub struct Random(pub u64);
+
+impl Random {
+    pub fn next(&mut self) -> u64 {
+        self.0 = self.0.wrapping_add(0x9e37_79b9_7f4a_7c15);
+        let mixed = (self.0 ^ self.0 >> 30).wrapping_mul(0xbf58_476d_1ce4_e5b9);
+        let mixed = (mixed ^ mixed >> 27).wrapping_mul(0x94d0_49bb_1331_11eb);
+        mixed ^ mixed >> 31
+    }
+
+    pub fn below(&mut self, limit: usize) -> usize {
+        (self.next() % limit as u64) as usize
+    }
+
+    /// Words that mean something elsewhere, that wrap when they are multiplied,
+    /// or any.
+    pub fn word(&mut self) -> u64 {
+        const SPECIAL: [u64; 14] = [
+            0,
+            1,
+            2,
+            3,
+            63,
+            64,
+            65,
+            128,
+            129,
+            256,
+            1 << 57,
+            1 << 60,
+            1 << 63,
+            u64::MAX,
+        ];
+        match self.below(2) {
+            0 => self.next(),
+            _ => SPECIAL[self.below(SPECIAL.len())],
+        }
     }
 }
 
-fn pair_of(row: &[u64; 32]) -> Pair {
-    let octets: Vec<u8> = row[SUFFIX..].iter().flat_map(|w| w.to_le_bytes()).collect();
-    let keys = match row[KEYS] {
-        0 => Keys::None,
-        1 => Keys::Adopted(key_of(&row[ADOPTED..])),
-        2 => Keys::Renewing {
-            adopted: key_of(&row[ADOPTED..]),
-            waiting: key_of(&row[WAITING..]),
+// ---- The second reader ----
+
+/// A table for the second reader.
+pub fn table_of(table: &Table) -> second::Table {
+    theirs(&table.view().expect("a table"))
+}
+
+pub fn theirs(view: &View) -> second::Table {
+    second::Table {
+        clock: view.clock,
+        pairs: view.pairs.iter().map(pair_of).collect(),
+    }
+}
+
+fn pair_of(pair: &luffcringle::Pair) -> second::Pair {
+    use luffcringle::Keys;
+    second::Pair {
+        suffix: pair.suffix.clone(),
+        lifetime: pair.lifetime,
+        fresh: pair.fresh,
+        next_serial: pair.next_serial,
+        keys: match &pair.keys {
+            Keys::None => second::Keys::None,
+            Keys::Adopted(key) => second::Keys::Adopted(key_of(key)),
+            Keys::Renewing { adopted, waiting } => second::Keys::Renewing {
+                adopted: key_of(adopted),
+                waiting: key_of(waiting),
+            },
         },
-        other => panic!("{other} says nothing about keys"),
-    };
-    Pair {
-        suffix: octets[..row[0] as usize].to_vec(),
-        lifetime: row[1],
-        fresh: row[2],
-        next_serial: row[NEXT_SERIAL],
-        keys,
     }
 }
 
-fn key_of(words: &[u64]) -> Key {
-    Key {
-        serial: words[0],
-        algorithm: Algorithm::from_number(words[1]).expect("an algorithm"),
-        inception: words[2],
-        partial: words[3],
-        expiry: words[4],
+fn key_of(key: &luffcringle::Key) -> second::Key {
+    second::Key {
+        serial: key.serial,
+        algorithm: Algorithm::from_number(key.algorithm).expect("an algorithm"),
+        inception: key.inception,
+        partial: key.partial,
+        expiry: key.expiry,
     }
 }
 

@@ -1,61 +1,77 @@
 -- `looking::look_passed` meets its contract. Assumes nothing.
-use Rattle.model.specs.Calls.{FORMAT, SIZE}
-use mathlib.Core.Path.{_∙_, sym}
-use Rattle.model.proofs.CallLaws.{look-format, look-size}
-use Rattle.messages.proofs.Sizes.{size-short, size-long, size-fits}
-use Rattle.messages.proofs.Outlines.{scan-bad, scan-whole}
+use Prim.Native.Nat.{_<_}
+use mathlib.Core.Path.{ap, refl, _∙_}
+use Rattle.store.specs.Layout.{tableOf}
+use Rattle.searching.specs.Search.{foundRow}
+use Rattle.locating.proofs.Owners.{row-in, row-held}
+use Rattle.outcomes.proofs.Laws.{row-few}
+use Rattle.looking.proofs.Laws.{row-ruled, looks}
 use borrow.Author.Needs.{needs}
 use Rattle.looking.proofs.look_passed.Statement.{statement}
 use Rattle.looking.proofs.look_passed.Tie as tie
 
-refused-requires : tie.Need-refused-requires
-refused-requires c κs = search needs
+read-requires : tie.Need-read-requires
+read-requires c κs = search needs
 
-returns : tie.Need-returns
-unfolding SIZE
-returns c = c .refused .ensures ∙ sym (look-size _ _ (size-short _ (c .before .if1 .taken)))
+row-read-requires : tie.Need-row-read-requires
+row-read-requires c κs = search needs
 
-refused-requires-2 : tie.Need-refused-requires-2
-refused-requires-2 c κs = search needs
+enum-known-row : tie.Need-enum-known-row
+enum-known-row c = search needs
 
-returns-2 : tie.Need-returns-2
-unfolding SIZE
-returns-2 c = c .refused2 .ensures ∙ sym (look-size _ _ (size-long _ (c .before .if2 .taken)))
+pair-of-requires : tie.Need-pair-of-requires
+pair-of-requires c κs =
+    let a = c .before .before .before .before .before .before .before .before .args in
+    (c .before .before .before .before .before .before .before .before .pre .layout, row-in (a .words .now) (a .suffixes .now) (a .message .now) _ (c .before .before .before .row-read .ensures ∙ ap foundRow (c .before .row .given .1)))
 
-scan-requires : tie.Need-scan-requires
-scan-requires c κs = search needs
+suffix-of-requires : tie.Need-suffix-of-requires
+suffix-of-requires c κs =
+    let a = c .before .before .before .before .before .before .before .before .before .args in
+    (c .before .before .before .before .before .before .before .before .before .pre .layout, row-in (a .words .now) (a .suffixes .now) (a .message .now) _ (c .before .before .before .before .row-read .ensures ∙ ap foundRow (c .before .before .row .given .1)))
+
+add-t13 : tie.Need-add-t13
+add-t13 c =
+    let a = c .before .before .before .before .before .before .before .before .before .before .args in
+    let h : c .before .before .before .row .given .0 .0 < 64 = row-few (a .words .now) (a .suffixes .now) (c .before .before .before .before .before .before .before .before .before .before .pre .layout) _ (row-in (a .words .now) (a .suffixes .now) (a .message .now) _ (c .before .before .before .before .before .row-read .ensures ∙ ap foundRow (c .before .before .before .row .given .1))) in
+    search needs
+
+look-step-requires : tie.Need-look-step-requires
+look-step-requires c κs =
+    let a = c .before .before .before .before .before .before .before .before .before .before .args in
+    (c .before .before .before .before .before .before .read .ensures, row-ruled (a .words .now) (a .suffixes .now) (c .before .before .before .before .before .before .before .before .before .before .pre) _ (row-in (a .words .now) (a .suffixes .now) (a .message .now) _ (c .before .before .before .before .before .row-read .ensures ∙ ap foundRow (c .before .before .before .row .given .1))) (c .before .pair-of .ensures))
 
 enum-told : tie.Need-enum-told
 enum-told c = search needs
 
-refused-requires-3 : tie.Need-refused-requires-3
-refused-requires-3 c κs = search needs
+slice-aggregate-none : tie.Need-slice-aggregate-none
+slice-aggregate-none c = search needs
 
-enum-known-seen : tie.Need-enum-known-seen
-enum-known-seen c = search needs
+look-step-requires-2 : tie.Need-look-step-requires-2
+look-step-requires-2 c κs = search needs
 
-look-read-requires : tie.Need-look-read-requires
-look-read-requires c κs = search needs
+returns : tie.Need-returns
+returns c =
+    let a = c .before .before .before .before .before .before .before .before .before .before .before .args in
+    looks (a .words .now) (a .suffixes .now) (a .message .now) _ (c .before .before .before .before .before .before .row-read .ensures ∙ ap foundRow (c .before .before .before .before .row .given .1)) _ (row-held (tableOf (a .words .now) (a .suffixes .now)) _ (c .before .before .pair-of .ensures) (c .before .suffix-of .ensures)) _ (c .look-step .ensures)
 
-returns-3 : tie.Need-returns-3
-unfolding FORMAT
-returns-3 c = c .refused3 .ensures ∙ sym (look-format _ _ (size-fits _ (c .before .before .before .before .before .if1 .left) (c .before .before .before .before .if2 .left)) _ (scan-bad _ (c .before .before .before .scan .ensures) (c .before .enum-told .given .1)))
-
-returns-4 : tie.Need-returns-4
-returns-4 c = c .look-read .ensures _ _ (size-fits _ (c .before .before .before .before .before .before .if1 .left) (c .before .before .before .before .before .if2 .left)) (scan-whole _ (c .before .before .before .before .scan .ensures) (c .before .before .seen .given .1))
+returns-2 : tie.Need-returns-2
+returns-2 c =
+    let a = c .before .before .before .before .before .before .before .before .before .args in
+    looks (a .words .now) (a .suffixes .now) (a .message .now) _ (c .before .before .before .before .row-read .ensures ∙ ap foundRow (c .before .before .enum-told .given .1)) _ refl _ (c .look-step2 .ensures)
 
 pub look-passed-spec : {M : Type 1} → statement M
 look-passed-spec =
     tie.close
     (tie.spec
-    refused-requires
-    returns
-    refused-requires-2
-    returns-2
-    scan-requires
+    read-requires
+    row-read-requires
+    enum-known-row
+    pair-of-requires
+    suffix-of-requires
+    add-t13
+    look-step-requires
     enum-told
-    refused-requires-3
-    enum-known-seen
-    look-read-requires
-    returns-3
-    returns-4)
+    slice-aggregate-none
+    look-step-requires-2
+    returns
+    returns-2)

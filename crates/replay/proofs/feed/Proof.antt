@@ -7,10 +7,10 @@ use Rattle.replay.proofs.feed.Statement.{statement}
 use Rattle.replay.proofs.feed.Tie as tie
 
 abbrev Inv-loop : tie.InvT-loop
-Inv-loop input line₀ arena₀ out₀ text₀ r₀ i₀ line arena out text r i = (length line ≡ length line₀) × (length arena ≡ length arena₀) × (length out ≡ length out₀) × (length text ≡ length text₀)
+Inv-loop words₀ suffixes₀ input line₀ arena₀ out₀ text₀ r₀ i₀ words suffixes line arena out text r i = (length words ≡ length words₀) × (length suffixes ≡ length suffixes₀) × (length line ≡ length line₀) × (length arena ≡ length arena₀) × (length out ≡ length out₀) × (length text ≡ length text₀)
 
 abbrev μ-loop : tie.MeasureT-loop
-μ-loop input line₀ arena₀ out₀ text₀ r₀ i₀ line arena out text r i = length input - i
+μ-loop words₀ suffixes₀ input line₀ arena₀ out₀ text₀ r₀ i₀ words suffixes line arena out text r i = length input - i
 
 loop-holds : tie.Need-loop-holds Inv-loop μ-loop
 loop-holds c = search needs
@@ -39,6 +39,12 @@ same-length-3 c = search needs
 same-length-4 : tie.Need-same-length-4 Inv-loop μ-loop
 same-length-4 c = search needs
 
+same-length-5 : tie.Need-same-length-5 Inv-loop μ-loop
+same-length-5 c = search needs
+
+same-length-6 : tie.Need-same-length-6 Inv-loop μ-loop
+same-length-6 c = search needs
+
 returns : tie.Need-returns Inv-loop μ-loop
 returns c = search needs
 
@@ -57,4 +63,6 @@ feed-spec =
     same-length-2
     same-length-3
     same-length-4
+    same-length-5
+    same-length-6
     returns)

@@ -6,10 +6,10 @@ use Rattle.replay.proofs.run_all.Statement.{statement}
 use Rattle.replay.proofs.run_all.Tie as tie
 
 abbrev Inv-loop : tie.InvT-loop
-Inv-loop input₀ line₀ arena₀ out₀ text₀ r₀ turns₀ input line arena out text r turns = (length input ≡ length input₀) × (length line ≡ length line₀) × (length arena ≡ length arena₀) × (length out ≡ length out₀) × (length text ≡ length text₀)
+Inv-loop words₀ suffixes₀ input₀ line₀ arena₀ out₀ text₀ r₀ turns₀ words suffixes input line arena out text r turns = (length words ≡ length words₀) × (length suffixes ≡ length suffixes₀) × (length input ≡ length input₀) × (length line ≡ length line₀) × (length arena ≡ length arena₀) × (length out ≡ length out₀) × (length text ≡ length text₀)
 
 abbrev μ-loop : tie.MeasureT-loop
-μ-loop input₀ line₀ arena₀ out₀ text₀ r₀ turns₀ input line arena out text r turns = turns
+μ-loop words₀ suffixes₀ input₀ line₀ arena₀ out₀ text₀ r₀ turns₀ words suffixes input line arena out text r turns = turns
 
 loop-holds : tie.Need-loop-holds Inv-loop μ-loop
 loop-holds c = search needs
@@ -41,6 +41,12 @@ same-length-4 c = search needs
 same-length-5 : tie.Need-same-length-5 Inv-loop μ-loop
 same-length-5 c = search needs
 
+same-length-6 : tie.Need-same-length-6 Inv-loop μ-loop
+same-length-6 c = search needs
+
+same-length-7 : tie.Need-same-length-7 Inv-loop μ-loop
+same-length-7 c = search needs
+
 returns : tie.Need-returns Inv-loop μ-loop
 returns c = search needs
 
@@ -60,4 +66,6 @@ run-all-spec =
     same-length-3
     same-length-4
     same-length-5
+    same-length-6
+    same-length-7
     returns)

@@ -1,6 +1,8 @@
 -- `replies::renewal` meets its contract. Assumes nothing.
 use denote.Ref.{now}
-use Rattle.replies.proofs.Answers.{no-renewal, no-echo, renewal-in, renewal-answers, key-in, echo-in, lent-short}
+use native.Mathlib.Omega.{arith}
+use mathlib.Core.Path.{sym}
+use Rattle.replies.proofs.Answers.{read-so, echo-in, renewal-in, renewal-answers, no-renewal, no-echo, name-lent, out-lent, lent-short}
 use borrow.Author.Needs.{needs}
 use Rattle.replies.proofs.renewal.Statement.{statement}
 use Rattle.replies.proofs.renewal.Tie as tie
@@ -8,14 +10,29 @@ use Rattle.replies.proofs.renewal.Tie as tie
 enum-told : tie.Need-enum-told
 enum-told c = search needs
 
-enum-known-found : tie.Need-enum-known-found
-enum-known-found c = search needs
+enum-known-only : tie.Need-enum-known-only
+enum-known-only c = search needs
 
 enum-told-2 : tie.Need-enum-told-2
 enum-told-2 c = search needs
 
-enum-known-key : tie.Need-enum-known-key
-enum-known-key c = search needs
+enum-known-one : tie.Need-enum-known-one
+enum-known-one c = search needs
+
+slice-aggregate-key-name : tie.Need-slice-aggregate-key-name
+slice-aggregate-key-name c = search needs
+
+key-name-requires : tie.Need-key-name-requires
+key-name-requires c κs = search needs
+
+name-at-requires : tie.Need-name-at-requires
+name-at-requires c κs = search needs
+
+slice-aggregate-all : tie.Need-slice-aggregate-all
+slice-aggregate-all c = search needs
+
+slice-aggregate-echoed : tie.Need-slice-aggregate-echoed
+slice-aggregate-echoed c = sym (c .before .before .name-at .ensures .room)
 
 add-granting : tie.Need-add-granting
 add-granting c = search needs
@@ -23,67 +40,81 @@ add-granting c = search needs
 granting-requires : tie.Need-granting-requires
 granting-requires c κs = search needs
 
-sub-granted : tie.Need-sub-granted
-sub-granted c = search needs
+sub-tkey-reply : tie.Need-sub-tkey-reply
+sub-tkey-reply c = search needs
 
-part-granted-start : tie.Need-part-granted-start
-part-granted-start c = search needs
+part-tkey-reply-start : tie.Need-part-tkey-reply-start
+part-tkey-reply-start c = search needs
 
-part-granted-end : tie.Need-part-granted-end
-part-granted-end c =
-    let s = c .before .before .before .before .before .before .before .before .before .before .before .before .before .before in
-    let a = s .args in
-    let f = key-in (now (a .m)) (a .key) _ _ (c .before .before .before .before .before .key .given .1) (s .pre .2) in
-    search needs
+part-tkey-reply-end : tie.Need-part-tkey-reply-end
+part-tkey-reply-end c = search needs
 
-granted-requires : tie.Need-granted-requires
-granted-requires c κs =
-    let s = c .before .before .before .before .before .before .before .before .before .before .before .before .before .before .before in
-    let a = s .args in
-    let is = c .before .before .before .before .before .before .before .before .before .found .given .1 in
-    let f = key-in (now (a .m)) (a .key) _ _ (c .before .before .before .before .before .before .key .given .1) (s .pre .2) in (
-      s .pre .0,
-      renewal-in (now (a .m)) (a .found) _ _ is _ _ _ (c .before .before .granting .ensures) (s .pre .1),
-      echo-in (now (a .m)) _ (f .1),
+sub-tkey-reply-2 : tie.Need-sub-tkey-reply-2
+sub-tkey-reply-2 c = search needs
+
+part-tkey-reply-start-2 : tie.Need-part-tkey-reply-start-2
+part-tkey-reply-start-2 c = search needs
+
+part-tkey-reply-end-2 : tie.Need-part-tkey-reply-end-2
+part-tkey-reply-end-2 c = let o = c .before .before .before .before .before .before .name-at .ensures in search needs
+
+tkey-reply-requires : tie.Need-tkey-reply-requires
+tkey-reply-requires c κs =
+    let s = c .before .before .before .before .before .before .before .before .before .before .before .before .before .before .before .before .before .before .before .before .before .before in
+    let a = s .args in (
+      read-so (s .pre .0),
+      renewal-in (s .pre .0) _ _ (c .before .before .before .before .before .before .before .before .before .before .before .before .before .before .before .before .only .given .1) _ _ (c .before .before .before .before .before .before .before .before .before .before .before .before .before .one .given .1) (a .pair) (a .time) _ (c .before .before .before .granting .ensures),
+      echo-in (s .pre .0) _ _ (c .before .before .before .before .before .before .before .before .before .before .before .before .before .before .before .before .only .given .1) _ _ (c .before .before .before .before .before .before .before .before .before .before .before .before .before .one .given .1),
+      lent-short (c .before .before .before .before .before .before .before .before .before .before .key-name .result) _ (omega (arith, c .before .before .before .before .before .before .before .before .before .before .key-name .ensures .0, s .pre)),
       search needs,
-      search needs,
-      search needs,
-      lent-short _ (now (a .subject)) (f .0),
+      lent-short _ _ (c .before .before .before .before .before .before .before .name-at .ensures .short),
     )
+
+by-length-requires : tie.Need-by-length-requires
+by-length-requires c κs = search needs
 
 returns : tie.Need-returns
 returns c =
     let a = c .before .before .before .before .before .before .args in
-    no-renewal (now (a .m)) (a .end) (a .found) (a .key) (now (a .subject)) (now (a .offer)) (a .pair) (now (a .suffix)) (a .time) (now (a .buf)) (c .enum-told .given .1)
+    no-renewal (now (a .m)) (a .c) (now (a .buf)) (now (a .offer)) (a .pair) (now (a .suffix)) (a .time) (c .enum-told .given .1)
 
 returns-2 : tie.Need-returns-2
 returns-2 c =
     let a = c .before .before .before .before .before .before .before .before .before .args in
-    no-echo (now (a .m)) (a .end) (a .found) (a .key) (now (a .subject)) (now (a .offer)) (a .pair) (now (a .suffix)) (a .time) _ _ (c .before .before .before .found .given .1) (now (a .buf)) (c .enum-told2 .given .1)
+    no-echo (now (a .m)) (a .c) (now (a .buf)) (now (a .offer)) (a .pair) (now (a .suffix)) (a .time) _ _ (c .before .before .before .only .given .1) (c .enum-told2 .given .1)
 
 same-length : tie.Need-same-length
 same-length c = search needs
 
 returns-3 : tie.Need-returns-3
 returns-3 c =
-    let a = c .before .before .before .before .before .before .before .before .before .before .before .before .before .before .before .before .before .before .args in
-    renewal-answers (now (a .m)) (a .end) (a .found) (a .key) (now (a .subject)) (now (a .offer)) (a .pair) (now (a .suffix)) (a .time) _ _ (c .before .before .before .before .before .before .before .before .before .before .before .before .found .given .1) _ _ (c .before .before .before .before .before .before .before .before .before .key .given .1) _ (c .before .before .before .before .before .granting .ensures)
-    (c .before .before .granted .ensures)
+    let s = c .before .before .before .before .before .before .before .before .before .before .before .before .before .before .before .before .before .before .before .before .before .before .before .before .before .before in
+    let a = s .args in
+    renewal-answers (s .pre .0) _ _ (c .before .before .before .before .before .before .before .before .before .before .before .before .before .before .before .before .before .before .before .before .only .given .1) _ _ (c .before .before .before .before .before .before .before .before .before .before .before .before .before .before .before .before .before .one .given .1) (a .pair) (a .time) _ (c .before .before .before .before .before .before .before .granting .ensures) _ _ _ (now (a .suffix)) (name-lent (c .before .before .before .before .before .before .before .before .before .before .before .before .before .before .key-name .ensures .1)) (out-lent (c .before .before .before .before .before .before .before .before .before .before .before .name-at .ensures)) (c .before .before .before .tkey-reply .ensures) (c .by-length .ensures)
 
 pub renewal-spec : {M : Type 1} → statement M
 renewal-spec =
     tie.close
     (tie.spec
     enum-told
-    enum-known-found
+    enum-known-only
     enum-told-2
-    enum-known-key
+    enum-known-one
+    slice-aggregate-key-name
+    key-name-requires
+    name-at-requires
+    slice-aggregate-all
+    slice-aggregate-echoed
     add-granting
     granting-requires
-    sub-granted
-    part-granted-start
-    part-granted-end
-    granted-requires
+    sub-tkey-reply
+    part-tkey-reply-start
+    part-tkey-reply-end
+    sub-tkey-reply-2
+    part-tkey-reply-start-2
+    part-tkey-reply-end-2
+    tkey-reply-requires
+    by-length-requires
     returns
     returns-2
     same-length

@@ -2,7 +2,7 @@
 use denote.Ref.{now}
 use mathlib.Core.Path.{refl}
 use Rattle.model.specs.Replies.{replyOf}
-use Rattle.replies.proofs.Answers.{answers-none, refused-fits, failed-fits, renews-fits, none-replies, refused-replies, tkey-replies, readopted-replies, renewed-replies}
+use Rattle.replies.proofs.Answers.{answers-none, read-so, refused-fits, failed-fits, renews-fits, none-replies, refused-replies, tkey-replies, readopted-replies, renewed-replies}
 use borrow.Author.Needs.{needs}
 use Rattle.replies.proofs.reply.Statement.{statement}
 use Rattle.replies.proofs.reply.Tie as tie
@@ -16,7 +16,7 @@ enum-known-d c = search needs
 refused-requires : tie.Need-refused-requires
 refused-requires c κs =
     let s = c .before .before .before .before .before .before .before .before in
-    (s .pre .0, refused-fits (s .args .d) (s .args .pair) (s .args .time) (s .pre .3) _ _ (c .before .before .d .given .1))
+    (read-so (s .pre .0), refused-fits (s .args .d) (s .args .pair) (s .args .time) (s .pre .1) _ _ (c .before .before .d .given .1))
 
 enum-told-2 : tie.Need-enum-told-2
 enum-told-2 c = search needs
@@ -27,7 +27,7 @@ enum-known-d-2 c = search needs
 outcome-requires : tie.Need-outcome-requires
 outcome-requires c κs =
     let s = c .before .before .before .before .before .before .before .before in
-    (s .pre .0, s .pre .1, failed-fits (s .args .d) (s .args .pair) (s .args .time) (s .pre .3) _ (c .before .before .d2 .given .1))
+    (s .pre .0, failed-fits (s .args .d) (s .args .pair) (s .args .time) (s .pre .1) _ (c .before .before .d2 .given .1))
 
 enum-told-3 : tie.Need-enum-told-3
 enum-told-3 c = search needs
@@ -35,8 +35,8 @@ enum-told-3 c = search needs
 renewal-requires : tie.Need-renewal-requires
 renewal-requires c κs =
     let s = c .before .before .before .before .before .before .before in
-    let f = renews-fits (s .args .d) (s .args .pair) (s .args .time) (s .pre .3) _ (c .before .enum-told3 .given .1) in
-    (s .pre .0, s .pre .1, s .pre .2, f .0, f .1, s .pre .4, s .pre .5)
+    let f = renews-fits (s .args .d) (s .args .pair) (s .args .time) (s .pre .1) _ (c .before .enum-told3 .given .1) in
+    (s .pre .0, f .0, f .1, s .pre .2, s .pre .3)
 
 enum-told-4 : tie.Need-enum-told-4
 enum-told-4 c = search needs
@@ -64,77 +64,59 @@ outcome-requires-5 c κs = search needs
 
 returns : tie.Need-returns
 unfolding replyOf
-returns c =
-    let a = c .before .before .before .before .before .before .args in
-    none-replies (now (a .m)) (a .end) (a .found) (now (a .name)) (a .key) (now (a .subject)) (now (a .offer)) (a .pair) (now (a .suffix)) (a .time) (a .d) (λ h g q. rw (c .enum-told .given .1) refl) (answers-none (now (a .buf)))
+returns c = none-replies (λ h g q. rw (c .enum-told .given .1) refl) (answers-none (now (c .before .before .before .before .before .before .args .buf)))
 
 same-length : tie.Need-same-length
 same-length c = search needs
 
 returns-2 : tie.Need-returns-2
 unfolding replyOf
-returns-2 c =
-    let a = c .before .before .before .before .before .before .before .before .before .before .before .args in
-    refused-replies (now (a .m)) (a .end) (a .found) (now (a .name)) (a .key) (now (a .subject)) (now (a .offer)) (a .pair) (now (a .suffix)) (a .time) (a .d) _ (λ h g q. rw (c .before .before .before .before .before .d .given .1) refl) (c .before .before .refused .ensures)
+returns-2 c = refused-replies _ (λ h g q. rw (c .before .before .before .before .before .d .given .1) refl) (c .before .before .refused .ensures)
 
 returns-3 : tie.Need-returns-3
 unfolding replyOf
-returns-3 c =
-    let a = c .before .before .before .before .before .before .args in
-    none-replies (now (a .m)) (a .end) (a .found) (now (a .name)) (a .key) (now (a .subject)) (now (a .offer)) (a .pair) (now (a .suffix)) (a .time) (a .d) (λ h g q. rw (c .enum-told2 .given .1) refl) (answers-none (now (a .buf)))
+returns-3 c = none-replies (λ h g q. rw (c .enum-told2 .given .1) refl) (answers-none (now (c .before .before .before .before .before .before .args .buf)))
 
 same-length-2 : tie.Need-same-length-2
 same-length-2 c = search needs
 
 returns-4 : tie.Need-returns-4
 unfolding replyOf
-returns-4 c =
-    let a = c .before .before .before .before .before .before .before .before .before .before .before .args in
-    tkey-replies (now (a .m)) (a .end) (a .found) (now (a .name)) (a .key) (now (a .subject)) (now (a .offer)) (a .pair) (now (a .suffix)) (a .time) (a .d) _ (λ h g q. rw (c .before .before .before .before .before .d2 .given .1) refl) (c .before .before .outcome .ensures)
+returns-4 c = tkey-replies _ (λ h g q. rw (c .before .before .before .before .before .d2 .given .1) refl) (c .before .before .outcome .ensures)
 
 same-length-3 : tie.Need-same-length-3
 same-length-3 c = search needs
 
 returns-5 : tie.Need-returns-5
-returns-5 c =
-    let a = c .before .before .before .before .before .before .before .before .before .before .args in
-    renewed-replies (now (a .m)) (a .end) (a .found) (now (a .name)) (a .key) (now (a .subject)) (now (a .offer)) (a .pair) (now (a .suffix)) (a .time) (a .d) _ (c .before .before .before .before .enum-told3 .given .1) (c .before .before .renewal .ensures)
+returns-5 c = renewed-replies _ (c .before .before .before .before .enum-told3 .given .1) (c .before .before .renewal .ensures)
 
 same-length-4 : tie.Need-same-length-4
 same-length-4 c = search needs
 
 returns-6 : tie.Need-returns-6
 unfolding replyOf
-returns-6 c =
-    let a = c .before .before .before .before .before .before .before .before .before .before .args in
-    tkey-replies (now (a .m)) (a .end) (a .found) (now (a .name)) (a .key) (now (a .subject)) (now (a .offer)) (a .pair) (now (a .suffix)) (a .time) (a .d) 0 (λ h g q. rw (c .before .before .before .before .enum-told4 .given .1) refl) (c .before .before .outcome2 .ensures)
+returns-6 c = tkey-replies 0 (λ h g q. rw (c .before .before .before .before .enum-told4 .given .1) refl) (c .before .before .outcome2 .ensures)
 
 same-length-5 : tie.Need-same-length-5
 same-length-5 c = search needs
 
 returns-7 : tie.Need-returns-7
 unfolding replyOf
-returns-7 c =
-    let a = c .before .before .before .before .before .before .before .before .before .before .args in
-    readopted-replies (now (a .m)) (a .end) (a .found) (now (a .name)) (a .key) (now (a .subject)) (now (a .offer)) (a .pair) (now (a .suffix)) (a .time) (a .d) (λ h g q. rw (c .before .before .before .before .enum-told5 .given .1) refl) (c .before .before .outcome3 .ensures)
+returns-7 c = readopted-replies (λ h g q. rw (c .before .before .before .before .enum-told5 .given .1) refl) (c .before .before .outcome3 .ensures)
 
 same-length-6 : tie.Need-same-length-6
 same-length-6 c = search needs
 
 returns-8 : tie.Need-returns-8
 unfolding replyOf
-returns-8 c =
-    let a = c .before .before .before .before .before .before .before .before .before .before .args in
-    tkey-replies (now (a .m)) (a .end) (a .found) (now (a .name)) (a .key) (now (a .subject)) (now (a .offer)) (a .pair) (now (a .suffix)) (a .time) (a .d) 0 (λ h g q. rw (c .before .before .before .before .enum-told6 .given .1) refl) (c .before .before .outcome4 .ensures)
+returns-8 c = tkey-replies 0 (λ h g q. rw (c .before .before .before .before .enum-told6 .given .1) refl) (c .before .before .outcome4 .ensures)
 
 same-length-7 : tie.Need-same-length-7
 same-length-7 c = search needs
 
 returns-9 : tie.Need-returns-9
 unfolding replyOf
-returns-9 c =
-    let a = c .before .before .before .before .before .before .before .before .before .before .args in
-    tkey-replies (now (a .m)) (a .end) (a .found) (now (a .name)) (a .key) (now (a .subject)) (now (a .offer)) (a .pair) (now (a .suffix)) (a .time) (a .d) 0 (λ h g q. rw (c .before .before .before .before .enum-told7 .given .1) refl) (c .before .before .outcome5 .ensures)
+returns-9 c = tkey-replies 0 (λ h g q. rw (c .before .before .before .before .enum-told7 .given .1) refl) (c .before .before .outcome5 .ensures)
 
 pub reply-spec : {M : Type 1} → statement M
 reply-spec =

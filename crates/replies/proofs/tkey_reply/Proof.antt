@@ -18,13 +18,13 @@ key-data-requires c κs = search needs
 renewed-requires : tie.Need-renewed-requires
 renewed-requires c κs =
     let a = c .before .before .before .before .before .before .before .before .before .args in
-    let l = ap length (key-granted (a .granted) (now (a .m)) (a .t) (now (a .offer)) _ (c .before .before .key-data .ensures) (c .before .if1 .taken)) in
+    let l = ap length (key-granted (a .t .granted) (now (a .m)) (a .t) (now (a .offer)) _ (c .before .before .key-data .ensures) (c .before .if1 .taken)) in
     search needs
 
 repeated-requires : tie.Need-repeated-requires
 repeated-requires c κs =
     let a = c .before .before .before .before .before .before .before .before .before .args in
-    let l = ap length (key-asked (a .granted) (now (a .m)) (a .t) (now (a .offer)) _ (c .before .before .key-data .ensures) (c .before .if1 .left)) in
+    let l = ap length (key-asked (a .t .granted) (now (a .m)) (a .t) (now (a .offer)) _ (c .before .before .key-data .ensures) (c .before .if1 .left)) in
     let n = part-length (now (a .m)) (a .t .key .from) (a .t .key .size) (omega arith) in
     search needs
 
@@ -34,7 +34,7 @@ same-length c = search needs
 returns : tie.Need-returns
 returns c =
     let a = c .before .before .before .before .before .before .before .before .before .before .before .before .args in
-    replied-as (outcome-granted (a .granted) (now (a .m)) (a .t) (now (a .offer)) _ (c .before .before .before .before .before .key-data .ensures) (a .end) (now (a .owner)) (a .e) (now (a .subject)) (c .before .before .before .before .if1 .taken)) (c .before .before .renewed .ensures)
+    replied-as (outcome-granted (a .t .granted) (now (a .m)) (a .t) (now (a .offer)) _ (c .before .before .before .before .before .key-data .ensures) (a .end) (now (a .owner)) (a .e) (now (a .subject)) (c .before .before .before .before .if1 .taken)) (c .before .before .renewed .ensures)
 
 same-length-2 : tie.Need-same-length-2
 same-length-2 c = search needs
@@ -42,7 +42,7 @@ same-length-2 c = search needs
 returns-2 : tie.Need-returns-2
 returns-2 c =
     let a = c .before .before .before .before .before .before .before .before .before .before .before .before .args in
-    replied-as (outcome-repeated (a .granted) (now (a .m)) (a .t) (now (a .offer)) _ (c .before .before .before .before .before .key-data .ensures) (a .end) (now (a .owner)) (a .e) (now (a .subject)) (c .before .before .before .before .if1 .left)) (c .before .before .repeated .ensures)
+    replied-as (outcome-repeated (a .t .granted) (now (a .m)) (a .t) (now (a .offer)) _ (c .before .before .before .before .before .key-data .ensures) (a .end) (now (a .owner)) (a .e) (now (a .subject)) (c .before .before .before .before .if1 .left)) (c .before .before .repeated .ensures)
 
 pub tkey-reply-spec : {M : Type 1} → statement M
 tkey-reply-spec =

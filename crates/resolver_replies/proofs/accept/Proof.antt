@@ -8,11 +8,8 @@ use Rattle.resolver_replies.proofs.accept.Tie as tie
 close-request-requires : tie.Need-close-request-requires
 close-request-requires c κs = search needs
 
-is-response-requires : tie.Need-is-response-requires
-is-response-requires c κs = search needs
-
 returns : tie.Need-returns
-returns c = no-reply _ _ _ _ _ _ (c .before .before .close-request .ensures) _ (c .before .is-response .ensures) (not-true _ (c .if1 .taken))
+returns c = no-reply _ _ _ _ _ _ _ (c .before .close-request .ensures) (not-true _ (c .if1 .taken))
 
 shared-slice-read-wide : tie.Need-shared-slice-read-wide
 shared-slice-read-wide c = search needs
@@ -21,23 +18,22 @@ wide-requires : tie.Need-wide-requires
 wide-requires c κs = search needs
 
 returns-2 : tie.Need-returns-2
-returns-2 c = bad-rcode _ _ _ _ _ _ (c .before .before .before .before .before .close-request .ensures) _ (c .before .before .before .before .is-response .ensures) (not-false _ (c .before .before .before .if1 .left)) _ (c .before .wide .ensures .0) (c .if2 .taken)
+returns-2 c = bad-rcode _ _ _ _ _ _ _ (c .before .before .before .before .close-request .ensures) (not-false _ (c .before .before .before .if1 .left)) _ (c .before .wide .ensures .0) (c .if2 .taken)
 
 returns-3 : tie.Need-returns-3
-returns-3 c = bad-tsig _ _ _ _ _ _ (c .before .before .before .before .before .before .close-request .ensures) _ (c .before .before .before .before .before .is-response .ensures) (not-false _ (c .before .before .before .before .if1 .left)) _ (c .before .before .wide .ensures .0) (c .before .if2 .left) (c .if3 .taken)
+returns-3 c = bad-tsig _ _ _ _ _ _ _ (c .before .before .before .before .before .close-request .ensures) (not-false _ (c .before .before .before .before .if1 .left)) _ (c .before .before .wide .ensures .0) (c .before .if2 .left) (c .if3 .taken)
 
 moved-in-requires : tie.Need-moved-in-requires
 moved-in-requires c κs = search needs
 
 returns-4 : tie.Need-returns-4
-returns-4 c = no-error _ _ _ _ _ _ (c .before .before .before .before .before .before .before .close-request .ensures) _ (c .before .before .before .before .before .before .is-response .ensures) (not-false _ (c .before .before .before .before .before .if1 .left)) _ (c .before .before .before .wide .ensures .0) (c .before .before .if2 .left) (c .before .if3 .left) _ (c .moved-in .ensures)
+returns-4 c = no-error _ _ _ _ _ _ _ (c .before .before .before .before .before .before .close-request .ensures) (not-false _ (c .before .before .before .before .before .if1 .left)) _ (c .before .before .before .wide .ensures .0) (c .before .before .if2 .left) (c .before .if3 .left) _ (c .moved-in .ensures)
 
 pub accept-spec : {M : Type 1} → statement M
 accept-spec =
     tie.close
     (tie.spec
     close-request-requires
-    is-response-requires
     returns
     shared-slice-read-wide
     wide-requires

@@ -8,7 +8,7 @@ accept-requires : tie.Need-accept-requires
 accept-requires c κs = search needs
 
 returns : tie.Need-returns
-returns c = hears _ _ _ _ _ _ (c .accept .ensures)
+returns c = hears _ _ _ _ _ _ _ (c .accept .ensures)
 
 pub hear-spec : {M : Type 1} → statement M
 hear-spec = tie.close (tie.spec accept-requires returns)

@@ -5,9 +5,6 @@ use borrow.Author.Needs.{needs}
 use Rattle.resolver_replies.proofs.hear_signed.Statement.{statement}
 use Rattle.resolver_replies.proofs.hear_signed.Tie as tie
 
-signed-by-requires : tie.Need-signed-by-requires
-signed-by-requires c κs = search needs
-
 enum-told : tie.Need-enum-told
 enum-told c = search needs
 
@@ -20,37 +17,36 @@ enum-told-2 c = search needs
 refuse-reply-requires-2 : tie.Need-refuse-reply-requires-2
 refuse-reply-requires-2 c κs = search needs
 
-enum-known-fields : tie.Need-enum-known-fields
-enum-known-fields c = search needs
+enum-known-signer : tie.Need-enum-known-signer
+enum-known-signer c = search needs
 
 refuse-reply-requires-3 : tie.Need-refuse-reply-requires-3
 refuse-reply-requires-3 c κs = search needs
 
 returns : tie.Need-returns
-returns c = by-verdict _ _ _ _ _ _ _ (c .before .before .before .before .before .signed-by .ensures) _ _ _ (c .before .before .before .fields .given .1) (not-true _ (c .before .if1 .taken)) (c .refuse-reply3 .ensures)
+returns c = by-verdict _ _ _ _ _ _ _ _ _ _ (c .before .before .before .signer .given .1) (not-true _ (c .before .if1 .taken)) (c .refuse-reply3 .ensures)
 
 hear-requires : tie.Need-hear-requires
 hear-requires c κs = search needs
 
 returns-2 : tie.Need-returns-2
-returns-2 c = by-nobody _ _ _ _ _ _ _ (c .before .before .before .signed-by .ensures) _ (c .before .enum-told .given .1) (c .refuse-reply .ensures)
+returns-2 c = by-nobody _ _ _ _ _ _ _ _ (c .before .enum-told .given .1) (c .refuse-reply .ensures)
 
 returns-3 : tie.Need-returns-3
-returns-3 c = by-ill _ _ _ _ _ _ _ (c .before .before .before .signed-by .ensures) _ (c .before .enum-told2 .given .1) (c .refuse-reply2 .ensures)
+returns-3 c = by-ill _ _ _ _ _ _ _ _ (c .before .enum-told2 .given .1) (c .refuse-reply2 .ensures)
 
 returns-4 : tie.Need-returns-4
-returns-4 c = by-signed _ _ _ _ _ _ _ (c .before .before .before .before .before .signed-by .ensures) _ _ _ (c .before .before .before .fields .given .1) (not-false _ (c .before .if1 .left)) (c .hear .ensures)
+returns-4 c = by-signed _ _ _ _ _ _ _ _ _ _ (c .before .before .before .signer .given .1) (not-false _ (c .before .if1 .left)) (c .hear .ensures)
 
 pub hear-signed-spec : {M : Type 1} → statement M
 hear-signed-spec =
     tie.close
     (tie.spec
-    signed-by-requires
     enum-told
     refuse-reply-requires
     enum-told-2
     refuse-reply-requires-2
-    enum-known-fields
+    enum-known-signer
     refuse-reply-requires-3
     returns
     hear-requires

@@ -1,0 +1,219 @@
+-- The calls of the layout before are the definition's on the table that it shows. Assumes nothing.
+use mathlib.Core.Path.{_≡_, refl, sym, ap, ap₂, subst, _∙_}
+use mathlib.Core.Bool.{Bool, true, false, cond, _&&_}
+use mathlib.Core.Option.{Option, none, some}
+use mathlib.Core.List.{List, [], _∷_}
+use Prim.Native.Nat.{ℕ, _+_, _-_, _*_, _≤_, _<_}
+use native.Mathlib.Omega.{arith}
+use lib.Dec.{leb, ltb}
+use lib.ListN.{length, getD, length-set}
+use borrow.Author.Tests.{ltb-true, leb-true}
+use Rattle.model.specs.declared.Algorithm.{Algorithm}
+use Rattle.model.specs.declared.Named.{Named}
+use Rattle.model.specs.declared.Named.the-variants.{Known, Unknown}
+use Rattle.model.specs.declared.Pair.{Pair}
+use Rattle.model.specs.Octets.{Reading, stops, reads}
+use Rattle.model.specs.Names.{algorithmNumbered}
+use Rattle.model.specs.Messages.{Message, readMessage}
+use Rattle.model.specs.Tsig.{Signature, unsigned, misplaced, signed, signature}
+use Rattle.model.specs.Pairs.{issued}
+use Rattle.model.specs.Tables.{Row, Table, noPair, rowAt, suffixAt, pairAt, withPair, namesOf, rowNamed, isNone, suffixOk, termOk, tableRules}
+use Rattle.model.specs.Checks.{check, checkKnown}
+use Rattle.model.specs.Judging.{Holder, holder}
+use Rattle.model.specs.Calls.{NAME, TERM, TWIN, FULL, Outcome, Result, refusal, done, unchanged, gate, clockAt, withRow, firstSerial, freshPair, enrolled, enrolPassed, enrolOn, sizeOk, Call, issue, revoke, look, message, timeOf, signedBy, readBy, octetsOwner, numberOwner, ownerOf, stepOf, holderAt, servedBy, served, passed, called}
+use Rattle.model.specs.Runs.{Operation, enrol, call, operated}
+use Rattle.model.proofs.Buffers.{overlay-length}
+use Rattle.model.proofs.Rows.{few}
+use Rattle.model.proofs.Tests.{left, right}
+use Rattle.guarantees.proofs.OneCall.{served-is, pass-rules}
+use Rattle.guarantees.proofs.Made.{owner-enrolled}
+use Rattle.layouts.specs.Runs.{Does, Ran}
+use Rattle.layouts.specs.Array.{Array, Sized, suffixIn, rowIn, rowsIn, viewOf, rowOf, putClock, putPair, putRow, signedIn, readIn, octetsIn, numberIn, ownerIn, holderIn, refusedIn, servedIn, calledIn, enrolledIn, enrolIn, operatedIn, runIn}
+use Rattle.layouts.proofs.ArrayLaws.{view-at, view-count, view-clock, view-put, view-row, search-same, names-count}
+
+-- What an operation leaves, as it is shown.
+abbrev result : Array × Outcome → Result
+result x = record { table = viewOf (x .0); outcome = x .1 }
+
+-- ── Whose a call is ─────────────────────────────────────────────────────────────────────────────────────────────────
+
+module _ (a : Array) where
+  signed-same : (s : Signature) → signedIn a s ≡ signedBy (namesOf (viewOf a)) s
+  signed-same unsigned = refl
+  signed-same misplaced = refl
+  signed-same (signed s) = search-same a _
+
+  read-same : (r : Reading Message) → readIn a r ≡ readBy (namesOf (viewOf a)) r
+  read-same (stops place) = refl
+  read-same (reads m next) = signed-same (signature (m .records))
+
+  octets-same : (m : List ℕ) → octetsIn a m ≡ octetsOwner (namesOf (viewOf a)) m
+  unfolding octetsIn octetsOwner
+  octets-same m = ap (λ (o : Option ℕ). cond (sizeOk m) o none) (read-same (readMessage m))
+
+  number-same : (number : ℕ) → numberIn a number ≡ numberOwner (namesOf (viewOf a)) number
+  unfolding numberIn numberOwner
+  number-same number = ap (λ (n : ℕ). cond (leb 1 number && leb number n) (some (number - 1)) none) (sym (names-count a))
+
+  owner-same : (c : Call) → ownerIn a c ≡ ownerOf (namesOf (viewOf a)) c
+  unfolding ownerIn ownerOf
+  owner-same (issue time number algorithm) = number-same number
+  owner-same (revoke time number) = number-same number
+  owner-same (look octets) = octets-same octets
+  owner-same (message time good offer room octets) = octets-same octets
+
+  holder-same : (i : ℕ) → i < a .count → holderIn a i ≡ holderAt (viewOf a) i
+  unfolding holderIn holderAt suffixAt pairAt rowIn
+  holder-same i h = sym (ap {B = Holder} (λ (r : Row). holder (i + 1) (r .suffix) (r .pair)) (view-at a i h))
+
+  -- ── A call ──────────────────────────────────────────────────────────────────────────────────────────────────────────
+
+  module _ (z : Sized a) (room : a .count ≤ 64) (c : Call) where
+    served-same : (o : Option ℕ) → ownerOf (namesOf (viewOf a)) c ≡ o → servedBy (viewOf a) c o ≡ result (servedIn a c o)
+    served-same none e = refl
+    served-same (some i) e =
+        let h : i < length (viewOf a .rows) = owner-enrolled (viewOf a) c i e in
+        let n : length (viewOf a .rows) ≡ a .count = view-count a in
+        ap {B = Result} (λ (x : Holder). record { table = withPair (viewOf a) i (stepOf x c .pair); outcome = stepOf x c .outcome }) (sym (holder-same i (omega arith)))
+        ∙ ap {B = Result} (λ (t : Table). record { table = t; outcome = stepOf (holderIn a i) c .outcome }) (sym (view-put a i (stepOf (holderIn a i) c .pair) (z .slots) room (omega arith)))
+
+-- Another clock changes nothing else.
+sized-clock : (a : Array) (time : Option ℕ) → Sized a → Sized (putClock a time)
+unfolding putClock
+sized-clock a none z = z
+sized-clock a (some time) z = record { octets = z .octets; sizes = z .sizes; slots = z .slots }
+
+count-clock : (a : Array) (time : Option ℕ) → putClock a time .count ≡ a .count
+unfolding putClock
+count-clock a none = refl
+count-clock a (some time) = refl
+
+-- A table that passes the gate has at most 64 rows.
+rows-few : (a : Array) (time : Option ℕ) → gate (viewOf a) time ≡ none → putClock a time .count ≤ 64
+rows-few a time e =
+    let n : length (viewOf a .rows) ≤ 64 = few (viewOf a) (pass-rules (viewOf a) time e) in
+    let m : length (viewOf a .rows) ≡ a .count = view-count a in
+    let k : putClock a time .count ≡ a .count = count-clock a time in
+    omega arith
+
+module _ (a : Array) (z : Sized a) where
+  called-same : (c : Call) (g : Option ℕ) → gate (viewOf a) (timeOf c) ≡ g → passed (viewOf a) c g ≡ result (calledIn a c g)
+  unfolding unchanged
+  called-same c (some n) e = refl
+  called-same c none e =
+      let b = putClock a (timeOf c) in
+      ap (λ (t : Table). served t c) (sym (view-clock a (timeOf c)))
+      ∙ served-is (viewOf b) c
+      ∙ served-same b (sized-clock a (timeOf c) z) (rows-few a (timeOf c) e) c (ownerOf (namesOf (viewOf b)) c) refl
+      ∙ ap (λ (o : Option ℕ). result (servedIn b c o)) (sym (owner-same b c))
+
+-- ── Enrolment ───────────────────────────────────────────────────────────────────────────────────────────────────────
+
+module _ (a : Array) where
+  check-same : (n : ℕ) (b d : Bool) (x : Result) (y : Array × Outcome) → b ≡ d → (d ≡ true → x ≡ result y) → check (unchanged (viewOf a)) n b x ≡ result (check (refusedIn a) n d y)
+  unfolding unchanged
+  check-same n b d x y e f = ap (λ (z : Bool). check (unchanged (viewOf a)) n z x) e ∙ go d f
+    where
+      go : (d : Bool) → (d ≡ true → x ≡ result y) → check (unchanged (viewOf a)) n d x ≡ result (check (refusedIn a) n d y)
+      go true f = f refl
+      go false f = refl
+
+  known-same : (n : ℕ) (g : Named) (x : Algorithm → Result) (y : Algorithm → Array × Outcome) → ((h : Algorithm) → x h ≡ result (y h)) → checkKnown (unchanged (viewOf a)) n g x ≡ result (checkKnown (refusedIn a) n g y)
+  unfolding unchanged
+  known-same n (Known h) x y f = f h
+  known-same n Unknown x y f = refl
+
+module _ (a : Array) (z : Sized a) (suffix : List ℕ) (lifetime fresh algorithm : ℕ) where
+  short : suffixOk suffix ≡ true → length suffix ≤ 128
+  unfolding suffixOk
+  short e = leb-true (length suffix) 128 (left _ _ (right (leb 3 (length suffix)) _ e))
+
+  -- the pair that is added
+  abbrev new : Algorithm → Pair
+  new g = issued (freshPair 1 lifetime fresh) (a .clock) g
+
+  row-same : (g : Algorithm) → suffixOk suffix ≡ true → ltb (a .count) 64 ≡ true → viewOf (putRow a suffix (new g)) ≡ withRow (viewOf a) suffix (new g)
+  row-same g ok e = view-row a suffix (new g) z (ltb-true (a .count) 64 e) (short ok)
+
+  enrolled-same : enrolled (viewOf a) suffix lifetime fresh algorithm ≡ result (enrolledIn a suffix lifetime fresh algorithm)
+  unfolding enrolled enrolledIn firstSerial viewOf
+  enrolled-same =
+      check-same a NAME (suffixOk suffix) (suffixOk suffix) _ _ refl λ ok.
+      check-same a TERM (termOk lifetime fresh) (termOk lifetime fresh) _ _ refl λ term.
+      known-same a TERM (algorithmNumbered algorithm) _ _ λ g.
+      check-same a TWIN (isNone (rowNamed (namesOf (viewOf a)) suffix)) (isNone (rowOf a suffix)) _ _ (ap (λ (o : Option ℕ). isNone o) (sym (search-same a suffix))) λ lone.
+      check-same a FULL (ltb (length (viewOf a .rows)) 64) (ltb (a .count) 64) _ _ (ap (λ (n : ℕ). ltb n 64) (view-count a)) λ room.
+      ap₂ {C = Result} (λ (t : Table) (n : ℕ). record { table = t; outcome = done (n + 1) 1 }) (sym (row-same g ok room)) (view-count a)
+
+-- ── Every operation, and what it leaves of the arrays ───────────────────────────────────────────────────────────────
+
+module _ (a : Array) (z : Sized a) where
+  enrol-same :
+      (time : ℕ) (suffix : List ℕ) (lifetime fresh algorithm : ℕ) (g : Option ℕ)
+      → enrolPassed (viewOf a) time suffix lifetime fresh algorithm g ≡ result (enrolIn a time suffix lifetime fresh algorithm g)
+  unfolding unchanged
+  enrol-same time suffix lifetime fresh algorithm (some n) = refl
+  enrol-same time suffix lifetime fresh algorithm none =
+      ap (λ (t : Table). enrolled t suffix lifetime fresh algorithm) (sym (view-clock a (some time)))
+      ∙ enrolled-same (putClock a (some time)) (sized-clock a (some time) z) suffix lifetime fresh algorithm
+
+  pub does : (o : Operation) → Does viewOf a o (operatedIn a o .0) (operatedIn a o .1)
+  unfolding operated operatedIn enrolOn called
+  does (enrol time suffix lifetime fresh algorithm) = enrol-same time suffix lifetime fresh algorithm (gate (viewOf a) (some time))
+  does (call c) = called-same a z c (gate (viewOf a) (timeOf c)) refl
+
+sized-pair : (a : Array) (i : ℕ) (p : Pair) → Sized a → Sized (putPair a i p)
+unfolding putPair
+sized-pair a i p z = record { octets = z .octets; sizes = z .sizes; slots = length-set (a .pairs) i p ∙ z .slots }
+
+sized-row : (a : Array) (suffix : List ℕ) (p : Pair) → a .count < 64 → length suffix ≤ 128 → Sized a → Sized (putRow a suffix p)
+unfolding putRow
+sized-row a suffix p h n z =
+    let o : length (a .suffixes) ≡ 8192 = z .octets in
+    record {
+      octets = overlay-length suffix (a .suffixes) (a .count * 128) (omega arith) ∙ z .octets;
+      sizes = length-set (a .lengths) (a .count) (length suffix) ∙ z .sizes;
+      slots = length-set (a .pairs) (a .count) p ∙ z .slots;
+    }
+
+sized-served : (a : Array) (c : Call) (o : Option ℕ) → Sized a → Sized (servedIn a c o .0)
+sized-served a c none z = z
+sized-served a c (some i) z = sized-pair a i _ z
+
+sized-called : (a : Array) (c : Call) (g : Option ℕ) → Sized a → Sized (calledIn a c g .0)
+sized-called a c (some n) z = z
+sized-called a c none z = sized-served (putClock a (timeOf c)) c (ownerIn (putClock a (timeOf c)) c) (sized-clock a (timeOf c) z)
+
+-- what a chain of checks leaves, where its end is sized
+module _ (a : Array) (z : Sized a) where
+  checked : (n : ℕ) (b : Bool) (y : Array × Outcome) → (b ≡ true → Sized (y .0)) → Sized (check (refusedIn a) n b y .0)
+  checked n true y f = f refl
+  checked n false y f = z
+
+  known : (n : ℕ) (g : Named) (y : Algorithm → Array × Outcome) → ((h : Algorithm) → Sized (y h .0)) → Sized (checkKnown (refusedIn a) n g y .0)
+  known n (Known h) y f = f h
+  known n Unknown y f = z
+
+  sized-enrolled : (suffix : List ℕ) (lifetime fresh algorithm : ℕ) → Sized (enrolledIn a suffix lifetime fresh algorithm .0)
+  unfolding enrolledIn
+  sized-enrolled suffix lifetime fresh algorithm =
+      checked NAME (suffixOk suffix) _ λ ok.
+      checked TERM (termOk lifetime fresh) _ λ term.
+      known TERM (algorithmNumbered algorithm) _ λ g.
+      checked TWIN (isNone (rowOf a suffix)) _ λ lone.
+      checked FULL (ltb (a .count) 64) _ λ room.
+      sized-row a suffix _ (ltb-true (a .count) 64 room) (short a z suffix lifetime fresh algorithm ok) z
+
+sized-enrol : (a : Array) (time : ℕ) (suffix : List ℕ) (lifetime fresh algorithm : ℕ) (g : Option ℕ) → Sized a → Sized (enrolIn a time suffix lifetime fresh algorithm g .0)
+sized-enrol a time suffix lifetime fresh algorithm (some n) z = z
+sized-enrol a time suffix lifetime fresh algorithm none z = sized-enrolled (putClock a (some time)) (sized-clock a (some time) z) suffix lifetime fresh algorithm
+
+sized-after : (a : Array) (o : Operation) → Sized a → Sized (operatedIn a o .0)
+unfolding operatedIn
+sized-after a (enrol time suffix lifetime fresh algorithm) z = sized-enrol a time suffix lifetime fresh algorithm (gate (viewOf a) (some time)) z
+sized-after a (call c) z = sized-called a c (gate (viewOf a) (timeOf c)) z
+
+-- Its runs are runs.
+pub ran : (a : Array) (os : List Operation) → Sized a → Ran viewOf a os (runIn a os)
+ran a [] z = tt
+ran a (o ∷ os) z = (does a z o, ran (operatedIn a o .0) os (sized-after a o z))

@@ -1,0 +1,81 @@
+-- 02, CR 11: runs from tables that list alike, on any two layouts. Assumes nothing.
+use Prim.Native.Nat.{ℕ}
+use mathlib.Core.Bool.{false}
+use mathlib.Core.List.{List, [], _∷_}
+use mathlib.Core.Option.{Option, some}
+use mathlib.Core.Path.{_≡_, refl, sym, ap, ap₂, _∙_}
+use lib.ListN.{length}
+use Rattle.model.specs.Tables.{Table, tableRules}
+use Rattle.model.specs.Calls.{TABLE, Outcome, Result, unchanged, gate, enrolPassed, enrolOn, timeOf, passed, called, issueOn, revokeOn, lookOn, messageOn, bufferAfter}
+use Rattle.model.specs.Runs.{Operation, enrol, call, operated}
+use Rattle.model.specs.Listing.{listing}
+use Rattle.model.proofs.Listings.{listing-inj}
+use Rattle.store.specs.Layout.{tableOf}
+use Rattle.checking.proofs.Laws.{layout-words, layout-octets}
+use Rattle.ruling.proofs.Laws.{broken-layout}
+use Rattle.layouts.specs.Runs.{Does, Ran, seen}
+use Rattle.layouts.specs.Array.{viewOf, runIn}
+use Rattle.layouts.specs.Claim.{Lent, shownIn, Contracts, Covered, Claim}
+use Rattle.layouts.proofs.ArrayCalls.{ran}
+
+-- ── Any two layouts ─────────────────────────────────────────────────────────────────────────────────────────────────
+
+module _ {A B : Type 0} (v : A → Table) (u : B → Table) where
+  alike :
+      (x : A) (y : B) (os : List Operation) (run : List (A × Outcome)) (other : List (B × Outcome))
+      → v x ≡ u y
+      → Ran v x os run
+      → Ran u y os other
+      → seen v run ≡ seen u other
+  alike x y [] [] [] e r q = refl
+  alike x y (o ∷ os) (a ∷ run) (b ∷ other) e r q =
+      let one : _≡_ {A = Result} (record { table = v (a .0); outcome = a .1 }) (record { table = u (b .0); outcome = b .1 }) = sym (r .0) ∙ ap (λ (t : Table). operated t o) e ∙ q .0 in
+      let then : v (a .0) ≡ u (b .0) = ap (λ (z : Result). z .table) one in
+      ap₂ (λ (z : Outcome × List ℕ) (l : List (Outcome × List ℕ)). z ∷ l)
+      (ap₂ {C = Outcome × List ℕ} (λ (z : Outcome) (l : List ℕ). (z, l)) (ap (λ (z : Result). z .outcome) one) (ap listing then))
+      (alike (a .0) (b .0) os run other then (r .1) (q .1))
+
+-- ── TABLE ───────────────────────────────────────────────────────────────────────────────────────────────────────────
+
+module _ (t : Table) (e : tableRules t ≡ false) where
+  shut : (time : Option ℕ) → gate t time ≡ some TABLE
+  unfolding gate
+  shut time = rw e refl
+
+  refused : (o : Operation) → operated t o ≡ unchanged t TABLE
+  unfolding operated enrolOn called
+  refused (enrol time suffix lifetime fresh algorithm) = ap (enrolPassed t time suffix lifetime fresh algorithm) (shut (some time))
+  refused (call c) = ap (passed t c) (shut (timeOf c))
+
+covered : Covered
+unfolding shownIn
+covered = record {
+  refused = λ l o e. refused (tableOf (l .0) (l .1)) (broken-layout (l .0) (l .1) e) o;
+  words = λ l n. layout-words (l .0) (l .1) n;
+  octets = λ l n. layout-octets (l .0) (l .1) n;
+}
+
+-- ── The contracts ───────────────────────────────────────────────────────────────────────────────────────────────────
+
+contracts : Contracts
+unfolding shownIn operated issueOn revokeOn lookOn messageOn bufferAfter
+contracts = record {
+  enrols = λ time suffix lifetime fresh algorithm w s w′ s′ a v. sym (v .says);
+  issues = λ time pair algorithm w s w′ s′ a v. sym (v .says);
+  revokes = λ time pair w s w′ s′ a v. sym (v .says);
+  looks = λ m w s a e. sym e;
+  messages = λ time good offer m own w s w′ b b′ a v. record {
+    outcome = messageOn (tableOf w s) time good offer (length b) m .outcome;
+    does = ap {B = Result} (λ (t : Table). record { table = t; outcome = messageOn (tableOf w s) time good offer (length b) m .outcome }) (sym (v .shows));
+    answer = v .answers;
+    reply = v .replies;
+  };
+}
+
+pub claim : Claim
+claim = record {
+  contracts = contracts;
+  covered = covered;
+  lent = λ l m os run other e r q. alike shownIn shownIn l m os run other (listing-inj (shownIn l) (shownIn m) e) r q;
+  before = λ l a os run z e r. alike shownIn viewOf l a os run (runIn a os) (listing-inj (shownIn l) (viewOf a) e) r (ran a os z);
+}

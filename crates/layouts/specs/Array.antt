@@ -1,0 +1,137 @@
+-- The layout before 02, CR 11: rows in order of enrolment, their suffixes, lengths and pairs in three arrays, and found by comparing one row after another. It
+-- is here for the claim alone: no code has it any more. Assumes nothing.
+use Prim.Native.Nat.{ℕ, zero, suc, _+_, _-_, _*_}
+use mathlib.Core.Path.{_≡_}
+use mathlib.Core.Bool.{Bool, true, false, cond, _&&_}
+use mathlib.Core.Option.{Option, none, some}
+use mathlib.Core.List.{List, [], _∷_}
+use lib.ListN.{length, getD, set}
+use lib.Dec.{leb, ltb}
+use Rattle.model.specs.declared.Pair.{Pair}
+use Rattle.model.specs.Octets.{part, overlay, Reading, stops, reads}
+use Rattle.model.specs.Names.{sameName, afterLabel, algorithmNumbered}
+use Rattle.model.specs.Messages.{Message, readMessage}
+use Rattle.model.specs.Tsig.{Signature, unsigned, misplaced, signed, signature}
+use Rattle.model.specs.Pairs.{issued}
+use Rattle.model.specs.Tables.{Row, Table, noPair, isNone, suffixOk, termOk}
+use Rattle.model.specs.Checks.{check, checkKnown}
+use Rattle.model.specs.Judging.{Holder, nobody, holder}
+use Rattle.model.specs.Calls.{NAME, TERM, TWIN, FULL, Outcome, refusal, done, gate, freshPair, sizeOk, Call, issue, revoke, look, message, timeOf, stepOf}
+use Rattle.model.specs.Runs.{Operation, enrol, call}
+
+pub record Array : Type 0 where
+  pub clock : ℕ
+  pub count : ℕ
+  pub suffixes : List ℕ
+  pub lengths : List ℕ
+  pub pairs : List Pair
+
+-- Its arrays have 128 octets, a length and a pair for each of 64 rows.
+pub record Sized (a : Array) : Type 0 where
+  pub octets : length (a .suffixes) ≡ 8192
+  pub sizes : length (a .lengths) ≡ 64
+  pub slots : length (a .pairs) ≡ 64
+
+-- ── The view ────────────────────────────────────────────────────────────────────────────────────────────────────────
+
+-- The suffix of row i. A length over 128 leads into another row: it shows an empty suffix, which breaks a table rule.
+unfoldable pub suffixIn : Array → ℕ → List ℕ
+suffixIn a i = cond (leb (getD (a .lengths) i 0) 128) (part (a .suffixes) (i * 128) (getD (a .lengths) i 0)) []
+
+unfoldable pub rowIn : Array → ℕ → Row
+rowIn a i = record { suffix = suffixIn a i; pair = getD (a .pairs) i noPair }
+
+-- n rows from row i on.
+unfoldable pub rowsIn : Array → ℕ → ℕ → List Row
+rowsIn a zero i = []
+rowsIn a (suc n) i = rowIn a i ∷ rowsIn a n (suc i)
+
+unfoldable pub viewOf : Array → Table
+viewOf a = record { clock = a .clock; rows = rowsIn a (a .count) 0 }
+
+-- ── Its calls ───────────────────────────────────────────────────────────────────────────────────────────────────────
+
+-- The first of n rows from row i on whose suffix is this name.
+unfoldable pub searched : Array → List ℕ → ℕ → ℕ → Option ℕ
+searched a name zero i = none
+searched a name (suc n) i = elim (sameName (suffixIn a i) name) [ true ↦ some i | false ↦ searched a name n (suc i) ]
+
+unfoldable pub rowOf : Array → List ℕ → Option ℕ
+rowOf a name = searched a name (a .count) 0
+
+-- Another clock; another pair in row i; one row more.
+unfoldable pub putClock : Array → Option ℕ → Array
+putClock a none = a
+putClock a (some time) = record { clock = time; count = a .count; suffixes = a .suffixes; lengths = a .lengths; pairs = a .pairs }
+
+unfoldable pub putPair : Array → ℕ → Pair → Array
+putPair a i p = record { clock = a .clock; count = a .count; suffixes = a .suffixes; lengths = a .lengths; pairs = set (a .pairs) i p }
+
+unfoldable pub putRow : Array → List ℕ → Pair → Array
+putRow a suffix p =
+    record {
+      clock = a .clock;
+      count = a .count + 1;
+      suffixes = overlay suffix (a .count * 128) (a .suffixes);
+      lengths = set (a .lengths) (a .count) (length suffix);
+      pairs = set (a .pairs) (a .count) p;
+    }
+
+-- The row that a call belongs to.
+abbrev pub signedIn : Array → Signature → Option ℕ
+signedIn a unsigned = none
+signedIn a misplaced = none
+signedIn a (signed s) = rowOf a (afterLabel (s .name))
+
+abbrev pub readIn : Array → Reading Message → Option ℕ
+readIn a (stops place) = none
+readIn a (reads m next) = signedIn a (signature (m .records))
+
+unfoldable pub octetsIn : Array → List ℕ → Option ℕ
+octetsIn a octets = cond (sizeOk octets) (readIn a (readMessage octets)) none
+
+unfoldable pub numberIn : Array → ℕ → Option ℕ
+numberIn a number = cond (leb 1 number && leb number (a .count)) (some (number - 1)) none
+
+unfoldable pub ownerIn : Array → Call → Option ℕ
+ownerIn a (issue time number algorithm) = numberIn a number
+ownerIn a (revoke time number) = numberIn a number
+ownerIn a (look octets) = octetsIn a octets
+ownerIn a (message time good offer room octets) = octetsIn a octets
+
+unfoldable pub holderIn : Array → ℕ → Holder
+holderIn a i = holder (i + 1) (suffixIn a i) (getD (a .pairs) i noPair)
+
+-- What an operation leaves and ends with.
+abbrev pub refusedIn : Array → ℕ → Array × Outcome
+refusedIn a n = (a, refusal n)
+
+abbrev pub servedIn : Array → Call → Option ℕ → Array × Outcome
+servedIn a c none = (a, stepOf nobody c .outcome)
+servedIn a c (some i) = (putPair a i (stepOf (holderIn a i) c .pair), stepOf (holderIn a i) c .outcome)
+
+abbrev pub calledIn : Array → Call → Option ℕ → Array × Outcome
+calledIn a c (some n) = refusedIn a n
+calledIn a c none = servedIn (putClock a (timeOf c)) c (ownerIn (putClock a (timeOf c)) c)
+
+unfoldable pub enrolledIn : Array → List ℕ → ℕ → ℕ → ℕ → Array × Outcome
+enrolledIn a suffix lifetime fresh algorithm =
+    check (refusedIn a) NAME (suffixOk suffix)
+    (check (refusedIn a) TERM (termOk lifetime fresh)
+    (checkKnown (refusedIn a) TERM (algorithmNumbered algorithm) λ g.
+    check (refusedIn a) TWIN (isNone (rowOf a suffix))
+    (check (refusedIn a) FULL (ltb (a .count) 64)
+    (putRow a suffix (issued (freshPair 1 lifetime fresh) (a .clock) g), done (a .count + 1) 1))))
+
+abbrev pub enrolIn : Array → ℕ → List ℕ → ℕ → ℕ → ℕ → Option ℕ → Array × Outcome
+enrolIn a time suffix lifetime fresh algorithm (some n) = refusedIn a n
+enrolIn a time suffix lifetime fresh algorithm none = enrolledIn (putClock a (some time)) suffix lifetime fresh algorithm
+
+unfoldable pub operatedIn : Array → Operation → Array × Outcome
+operatedIn a (enrol time suffix lifetime fresh algorithm) = enrolIn a time suffix lifetime fresh algorithm (gate (viewOf a) (some time))
+operatedIn a (call c) = calledIn a c (gate (viewOf a) (timeOf c))
+
+-- A run.
+abbrev pub runIn : Array → List Operation → List (Array × Outcome)
+runIn a [] = []
+runIn a (o ∷ os) = operatedIn a o ∷ runIn (operatedIn a o .0) os

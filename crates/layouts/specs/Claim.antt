@@ -1,0 +1,78 @@
+-- 02, CR 11: "Prove every reply, number and listing equal to the old layout's for any run, .. from tables that list alike. TABLE now also covers the order and
+-- the map." Closing and loading join with their requests. The proof is `claim` of proofs/Claim. Assumes nothing.
+use Prim.Native.Nat.{ℕ}
+use mathlib.Core.Bool.{Bool, false}
+use mathlib.Core.Option.{Option}
+use mathlib.Core.List.{List, []}
+use mathlib.Core.Path.{_≡_}
+use lib.ListN.{length}
+use Rattle.model.specs.declared.Answer.{Answer}
+use Rattle.model.specs.Octets.{put}
+use Rattle.model.specs.Tables.{Table}
+use Rattle.model.specs.Calls.{TABLE, Outcome, unchanged, issue, revoke, look, message, enrolOn, issueOn, revokeOn, lookOn, messageOn}
+use Rattle.model.specs.Runs.{Operation, enrol, call, operated}
+use Rattle.model.specs.Listing.{listing}
+use Rattle.store.specs.Layout.{layoutRule, tableOf}
+use Rattle.outcomes.specs.Ends.{shown, Served}
+use Rattle.server.specs.Serve.{Answered}
+use Rattle.layouts.specs.Runs.{Does, Ran, seen}
+use Rattle.layouts.specs.Array.{Array, Sized, viewOf, runIn}
+
+-- The words and the octets, and the table that they show.
+abbrev pub Lent : Type 0
+Lent = List ℕ × List ℕ
+
+unfoldable pub shownIn : Lent → Table
+shownIn l = tableOf (l .0) (l .1)
+
+-- A message call that was answered so.
+pub record Messaged (time : ℕ) (good : Bool) (offer m w s w′ b b′ : List ℕ) (a : Answer) : Type 0 where
+  pub outcome : Outcome
+  pub does : Does shownIn (w, s) (call (message time good offer (length b) m)) (w′, s) outcome
+  pub answer : a ≡ outcome .answer
+  pub reply : b′ ≡ put (outcome .reply) b
+
+-- The contracts of the calls make what the code does on lent words and octets a run.
+pub record Contracts : Type 1 where
+  pub enrols :
+      (time : ℕ) (suffix : List ℕ) (lifetime fresh algorithm : ℕ) (w s w′ s′ : List ℕ) (a : Answer)
+      → Served (λ t. enrolOn t time suffix lifetime fresh algorithm) w s w′ s′ a
+      → Does shownIn (w, s) (enrol time suffix lifetime fresh algorithm) (w′, s′) (record { answer = a; reply = [] })
+  pub issues :
+      (time pair algorithm : ℕ) (w s w′ s′ : List ℕ) (a : Answer)
+      → Served (λ t. issueOn t time pair algorithm) w s w′ s′ a
+      → Does shownIn (w, s) (call (issue time pair algorithm)) (w′, s′) (record { answer = a; reply = [] })
+  pub revokes :
+      (time pair : ℕ) (w s w′ s′ : List ℕ) (a : Answer)
+      → Served (λ t. revokeOn t time pair) w s w′ s′ a
+      → Does shownIn (w, s) (call (revoke time pair)) (w′, s′) (record { answer = a; reply = [] })
+  pub looks : (m w s : List ℕ) (a : Answer) → shown w s a ≡ lookOn (tableOf w s) m → Does shownIn (w, s) (call (look m)) (w, s) (record { answer = a; reply = [] })
+  -- a message's outcome is its answer, and a reply that fills the first octets of its buffer
+  pub messages :
+      (time : ℕ) (good : Bool) (offer m : List ℕ) (own : Option ℕ) (w s w′ b b′ : List ℕ) (a : Answer)
+      → Answered (λ t. messageOn t time good offer (length b) m) own w s w′ b b′ a
+      → Messaged time good offer m w s w′ b b′ a
+
+-- Words and octets that break the layout rule, a wrong length included, are refused with TABLE by every operation, and shown as no table that keeps the rules.
+pub record Covered : Type 0 where
+  pub refused : (l : Lent) (o : Operation) → layoutRule (l .0) (l .1) ≡ false → operated (shownIn l) o ≡ unchanged (shownIn l) TABLE
+  pub words : (l : Lent) → (length (l .0) ≡ 1091 → ⊥) → layoutRule (l .0) (l .1) ≡ false
+  pub octets : (l : Lent) → (length (l .1) ≡ 8192 → ⊥) → layoutRule (l .0) (l .1) ≡ false
+
+pub record Claim : Type 1 where
+  pub contracts : Contracts
+  pub covered : Covered
+  -- from lent tables that list alike, whatever their words, any run ends alike, operation by operation
+  pub lent :
+      (l m : Lent) (os : List Operation) (run other : List (Lent × Outcome))
+      → listing (shownIn l) ≡ listing (shownIn m)
+      → Ran shownIn l os run
+      → Ran shownIn m os other
+      → seen shownIn run ≡ seen shownIn other
+  -- and as the layout before did
+  pub before :
+      (l : Lent) (a : Array) (os : List Operation) (run : List (Lent × Outcome))
+      → Sized a
+      → listing (shownIn l) ≡ listing (viewOf a)
+      → Ran shownIn l os run
+      → seen shownIn run ≡ seen viewOf (runIn a os)

@@ -1,7 +1,0 @@
-pub mod Refusals
-pub mod Freshness
-pub mod Gone
-pub mod Isolation
-pub mod Layouts
-pub mod Sample
-pub mod Promises

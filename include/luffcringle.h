@@ -124,10 +124,13 @@ uint64_t luffcringle_look(const uint64_t words[LUFFCRINGLE_TABLE_WORDS], const u
  *   error   pair    RCODE   TSIG to append
  *   17      0       9       BADKEY: unsigned (a MAC of size 0), with that error
  *   16      not 0   9       BADSIG: unsigned, with that error
- *   18      not 0   9       BADTIME: signed by the request's key, with that error and the server's time in its other data
+ *   18      not 0   9       BADTIME: signed by the request's key, with that error; its time signed is the request's,
+ *                           and the server's time is in its other data (RFC 8945, 5.2.3)
  *   3841    not 0   9       PartialRevoke: signed by the request's key, with that error
  *   0       not 0   0       a TKEY outcome: signed by the request's key, with error 0
- *   0       not 0   1       a MAC of a wrong size, or not one well formed TKEY: signed by the request's key where `good` was true, else none
+ *   0       not 0   1       where `good` was true, not one well formed TKEY: signed by the request's key, with error 0;
+ *                           where it was false, a MAC of a wrong size: unsigned, with error 0. (A MAC shorter than half of its
+ *                           algorithm's output, or longer than all of it, verifies nothing: pass `good` false for it.)
  *   0       0       1, 5    before a key is known: none
  * The request's key is the answer's pair and serial, also where this very message deleted or replaced it: keep its secret until the reply is
  * signed. */

@@ -236,7 +236,7 @@ impl Resolver {
         if let Some(answer) = granted(&message, &tsig, asked) {
             self.change_keys(asked, &answer);
         }
-        Ok(tsig.error == PARTIAL_REVOKE)
+        Ok(message.is_response() && tsig.error == PARTIAL_REVOKE)
     }
 
     /// What a granted request does to the keys.

@@ -26,7 +26,7 @@ use Rattle.model.specs.declared.Resolver.{Resolver}
 use Rattle.model.specs.declared.SignWith.the-variants as SignWith
 use Rattle.model.specs.Names.{lowerOf, sameName, wireName, algorithmName, algorithmNamed, keyName}
 use Rattle.model.specs.Tsig.{anyClass}
-use Rattle.model.specs.Tkey.{Old, tkeyType, keyType, modeOf, namesOld, oldOf}
+use Rattle.model.specs.Tkey.{Old, tkeyType, keyType, modeOf, renewsOrAdopts, oldOf}
 use Rattle.model.specs.Pairs.{withKeys, made, revokedKey, renewedKeys, renewed}
 use Rattle.model.specs.Tables.{Table, suffixAt, pairAt, withPair, withClock, tableRules}
 use Rattle.model.specs.Judging.{formErr, servFail, badKey, badAlg, badTime, adoptedOf, waitingOf, isKey, signerOf, heldSuffix, heldPair, goodTimes, goodInterval, canRenew, renewalOf, changed}
@@ -104,7 +104,7 @@ module _ (b : Sides) (i : ℕ) (e : Agree i b) (x : Turn) (asked : List ℕ) (g 
   old = record { name = nameOf k; algorithm = algorithmName (k .algorithm) }
 
   olds : oldOf 4098 other ≡ some old
-  unfolding oldOf modeOf namesOld oldKey
+  unfolding oldOf modeOf renewsOrAdopts oldKey
   olds = old-back (nameOf k) (algorithmName (k .algorithm)) named (algorithm-wire (k .algorithm))
 
   key : KeyEntry lent
@@ -271,7 +271,7 @@ module _ (b : Sides) (i : ℕ) (e : Agree i b) (x : Turn) (asked : List ℕ) (g 
 
   module _ (spare : p .«next_serial» < 2 ^ 32) (interval : goodTimes inception expiration ≡ true) (some-offer : 0 < length (x .offer)) (ready : InTime a x) (room : Room b x) where
     grants : decision b i x posed ≡ Renews g
-    unfolding posed modeOf namesOld renewalOf goodInterval canRenew
+    unfolding posed modeOf renewsOrAdopts renewalOf goodInterval canRenew
     grants =
         decision-is b i x posed a (row .adopted) (row .same) ready refl
         ∙ rw (is-key t i k a (row .same), named-back g, interval, lt-ltb (p .«next_serial») 0x1_0000_0000 spare, ne-eqb (length (x .offer)) 0 (λ z. omega arith)) refl

@@ -29,11 +29,12 @@ use Rattle.model.specs.Replies.{granted, renewedReply, replyOf}
 use Rattle.model.specs.Calls.{TIME, SIZE, OFFER, NOTQUERY, ROOM, Result, refusal, unchanged, timeFits, emptyTable, newTable, sizeOk, offerOk, roomFor, replyTo, replied, timeOf, signedBy, octetsOwner, ownerOf, holderAt, served, called}
 use Rattle.model.specs.Runs.{Operation, enrol, call, operated, operatedAll, Has, nextOf, suffixBy, suffixOf, keyRaised, keyMade, listed, namesMade, NoneSame, Distinct}
 use Rattle.model.proofs.CallLaws.{passes-first, message-size, message-offer, message-response, message-room, message-done}
-use Rattle.guarantees.specs.Freshness.{after, madeBy, Ask, asks, Decides, Renewed, AtOnce, Demand2}
+use Rattle.guarantees.specs.Freshness.{after, madeBy, Ask, asks, Decides, Granted, AtOnce, Demand2}
 use Rattle.model.proofs.Tests.{both, not-so, by-check}
 use Rattle.model.proofs.Decisions.{Grantable, Allows, allows}
 use Rattle.model.proofs.NameLaws.{same-sym, key-same}
 use Rattle.model.proofs.Rows.{at-member, set-has, same-next}
+use Rattle.guarantees.proofs.OneCall.{pass-rules}
 use Rattle.guarantees.proofs.Made.{Held, Event, New, new-name, raised, next-fits, next-row, owner-enrolled, call-made}
 use Rattle.guarantees.proofs.Enrolment.{enrol-made}
 
@@ -311,10 +312,7 @@ next-at t r i h = next-row t r (at-member (t .rows) i noRow h)
 pub last-rules : (time : ℕ) (os : List Operation) → tableRules (after time os) ≡ true
 last-rules time os = run-rules (newTable (emptyTable 0) time .table) os (new-rules time)
 
-module _ (time : ℕ) (os : List Operation) (q : Ask) (i : ℕ) (m : Message) where
-  abbrev t : Table
-  t = after time os
-
+module _ (t : Table) (q : Ask) (i : ℕ) (m : Message) where
   abbrev moment : ℕ
   moment = q .given .now
 
@@ -363,21 +361,24 @@ module _ (time : ℕ) (os : List Operation) (q : Ask) (i : ℕ) (m : Message) wh
     grant : Grantable m pair
     grant = rests (Renews g) x .allowed
 
+    rules-now : tableRules t ≡ true
+    rules-now = pass-rules t (some moment) (x .passes)
+
     rules-then : tableRules (called t (asks q) .table) ≡ true
     unfolding operated
-    rules-then = operation-made t (call (asks q)) (last-rules time os) .rules
+    rules-then = operation-made t (call (asks q)) rules-now .rules
 
     raised-name : keyMade t (call (asks q)) ≡ some name
     unfolding keyMade suffixOf operated made
     raised-name =
         ap (λ (o : Option ℕ). keyRaised t (called t (asks q) .table) (suffixBy t o)) (x .owner)
-        ∙ raised t (called t (asks q) .table) (suffixAt t i) _ _ (next-at t (last-rules time os) i (below (Renews g) x)) (next-then (Renews g) x rules-then) (next-more pair moment g)
+        ∙ raised t (called t (asks q) .table) (suffixAt t i) _ _ (next-at t rules-now i (below (Renews g) x)) (next-then (Renews g) x rules-then) (next-more pair moment g)
 
     waiting-new : waitingOf (pairAt (called t (asks q) .table) i .keys) ≡ some new
     unfolding changed renewed withKeys
     waiting-new = ap (λ (p : Pair). waitingOf (p .keys)) (pair-then (Renews g) x) ∙ waits-now (pair .keys) moment new (grant .signer) (grant .is-signer)
 
-    renews : Renewed time os q i m g
+    renews : Granted t q i m g
     unfolding replyOf renewedReply granted heldSuffix heldPair holderAt operated
     renews = record {
       tkey = grant .tkey;
@@ -388,15 +389,26 @@ module _ (time : ℕ) (os : List Operation) (q : Ask) (i : ℕ) (m : Message) wh
       name = name;
       is-name = refl;
       is-made = raised-name;
-      new-name = fresh-none t name (madeBy time os) (was-fresh t (called t (asks q) .table) name rules-then (operation-new t (call (asks q)) name raised-name)) (all-used (newTable (emptyTable 0) time .table) os (new-rules time));
       says = reply-then (Renews g) x ∙ rw (grant .is-tkey, grant .is-key) refl;
     }
+
+never-before :
+    (time : ℕ) (os : List Operation) (q : Ask) (i : ℕ) (m : Message) (g : Algorithm) (x : Decides (after time os) q i m (Renews g))
+    → NoneSame (renews (after time os) q i m g x .name) (madeBy time os)
+unfolding operated renews keyName
+never-before time os q i m g x =
+    let t = after time os in
+    let name = renews (after time os) q i m g x .name in
+    fresh-none t name (madeBy time os)
+    (was-fresh t (called t (asks q) .table) name (rules-then t q i m g x) (operation-new t (call (asks q)) name (raised-name t q i m g x)))
+    (all-used (newTable (emptyTable 0) time .table) os (new-rules time))
 
 pub demand2 : Demand2
 demand2 = record {
   no-name-twice = λ time os. all-distinct (newTable (emptyTable 0) time .table) os (new-rules time);
   every-key-made = every-key;
-  renewal-new = renews;
+  renewal-grants = renews;
+  renewal-new = never-before;
   adopts-at-once = adopts;
   rules-kept = last-rules;
 }

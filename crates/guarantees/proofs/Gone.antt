@@ -22,7 +22,7 @@ use Rattle.model.specs.declared.Decision.the-variants.{Refused, Passed, Renews,
 use Rattle.model.specs.Octets.{Reading, stops, reads}
 use Rattle.model.specs.Names.{sameName, keyName, algorithmName, algorithmNumbered}
 use Rattle.model.specs.Messages.{Message, readMessage}
-use Rattle.model.specs.Tsig.{Tsig, Signature, unsigned, misplaced, signed, signature}
+use Rattle.model.specs.Tsig.{Tsig, Signature, unsigned, misplaced, wellPlaced, signature}
 use Rattle.model.specs.Tkey.{contentsOf}
 use Rattle.model.specs.Pairs.{withKeys, made, revokedKey, issued, renewedKeys, renewed, adoptedKeys, adopted, deleted, withdrawnKeys, withdrawn}
 use Rattle.model.specs.Tables.{Row, Table, noRow, rowAt, suffixAt, pairAt, withClock, withPair, namesOf, rowNamed, isNone, distinct, tableRules}
@@ -222,7 +222,7 @@ unfolding inTime
 late-key a now h = and-false (leb (a .inception) now) (le-ltb now (a .expiry) h)
 
 -- So it is refused in step 3, with BADKEY.
-late-refused : (h : Holder) (g : Given) (m : Message) (x : Tsig) → signature (m .records) ≡ signed x → ((a : Key) → signerOf h x ≡ some a → a .expiry ≤ g .now) → judge h g m .decision ≡ Refused notAuth badKey
+late-refused : (h : Holder) (g : Given) (m : Message) (x : Tsig) → signature (m .records) ≡ wellPlaced x → ((a : Key) → signerOf h x ≡ some a → a .expiry ≤ g .now) → judge h g m .decision ≡ Refused notAuth badKey
 unfolding judge judgeRead unknown
 late-refused h g m x e f = rw e (go (signerOf h x) refl)
   where
@@ -262,7 +262,7 @@ unfolding holderAt withClock suffixAt pairAt rowAt
 same-holder t time i = refl
 
 module _ (t : Table) (s : List ℕ) (n : ℕ) (r : tableRules t ≡ true) (d : Dead t s n) (q : Ask) (octets-read : Message) (end : ℕ) (x : Tsig)
-    (is : readMessage (q .octets) ≡ reads octets-read end) (sign : signature (octets-read .records) ≡ signed x) (named : sameName (x .name) (keyName n s) ≡ true) where
+    (is : readMessage (q .octets) ≡ reads octets-read end) (sign : signature (octets-read .records) ≡ wellPlaced x) (named : sameName (x .name) (keyName n s) ≡ true) where
   abbrev m : Message
   m = octets-read
 
@@ -456,7 +456,7 @@ module _ (t : Table) (i : ℕ) (k : Key) (r : tableRules t ≡ true) where
 abbrev signedBy : Signature → List ℕ → Algorithm → Bool
 signedBy unsigned name g = false
 signedBy misplaced name g = false
-signedBy (signed x) name g = sameName (x .name) name && sameName (x .algorithm) (algorithmName g)
+signedBy (wellPlaced x) name g = sameName (x .name) name && sameName (x .algorithm) (algorithmName g)
 
 abbrev pub isSigned : Reading Message → List ℕ → Algorithm → Bool
 isSigned (stops place) name g = false
@@ -468,7 +468,7 @@ signed-with octets name g = go (readMessage octets) refl
     by-tsig : (m : Message) (end : ℕ) → readMessage octets ≡ reads m end → (x : Signature) → signature (m .records) ≡ x → signedBy x name g ≡ true → SignedWith octets name g
     by-tsig m end is unsigned sign e = absurd (false≢true e)
     by-tsig m end is misplaced sign e = absurd (false≢true e)
-    by-tsig m end is (signed x) sign e =
+    by-tsig m end is (wellPlaced x) sign e =
         let a = sameName (x .name) name in
         let b = sameName (x .algorithm) (algorithmName g) in
         record { read = m; end = end; tsig = x; readings = is; is-signed = sign; name-is = left a b e; algorithm-is = right a b e }

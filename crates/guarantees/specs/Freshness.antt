@@ -48,27 +48,26 @@ pub record Decides (t : Table) (q : Ask) (i : ℕ) (m : Message) (d : Decision) 
   pub finished : called t (asks q) .outcome .answer .number ≡ 0
 
 -- A renewal that was granted, of the pair in row i, with the algorithm g.
-pub record Renewed (time : ℕ) (os : List Operation) (q : Ask) (i : ℕ) (m : Message) (g : Algorithm) : Type 0 where
+pub record Granted (t : Table) (q : Ask) (i : ℕ) (m : Message) (g : Algorithm) : Type 0 where
   -- the request's TKEY and its KEY record
   pub tkey : Tkey
   pub keyRecord : Record
   pub is-tkey : onlyTkey m ≡ some tkey
   pub is-key : onlyKey m ≡ some keyRecord
   -- the new key, made now, waits
-  pub waiting : waitingOf (pairAt (called (after time os) (asks q) .table) i .keys) ≡ some (made (pairAt (after time os) i) (q .given .now) g)
-  -- its name is the one that the call made, and no key made before has it
+  pub waiting : waitingOf (pairAt (called t (asks q) .table) i .keys) ≡ some (made (pairAt t i) (q .given .now) g)
+  -- its name is the one that the call made
   pub name : List ℕ
-  pub is-name : name ≡ keyName (made (pairAt (after time os) i) (q .given .now) g .serial) (suffixAt (after time os) i)
-  pub is-made : keyMade (after time os) (call (asks q)) ≡ some name
-  pub new-name : NoneSame name (madeBy time os)
+  pub is-name : name ≡ keyName (made (pairAt t i) (q .given .now) g .serial) (suffixAt t i)
+  pub is-made : keyMade t (call (asks q)) ≡ some name
   -- the reply hands out this name, the new key's times and the offer
   pub says :
-      called (after time os) (asks q) .outcome .reply
+      called t (asks q) .outcome .reply
       ≡ heading m 0 1 1
       ++ (tkeyRecord name
       (tkeyData (tkey .algorithm)
-      (made (pairAt (after time os) i) (q .given .now) g .inception % 4294967296)
-      (made (pairAt (after time os) i) (q .given .now) g .expiry % 4294967296)
+      (made (pairAt t i) (q .given .now) g .inception % 4294967296)
+      (made (pairAt t i) (q .given .now) g .expiry % 4294967296)
       (tkey .mode)
       0
       (q .given .offer)
@@ -91,15 +90,13 @@ pub record Demand2 : Type 0 where
       → List·Memᴰ r (after time os .rows)
       → Has (r .pair .keys) k
       → List·Memᴰ (keyName (k .serial) (r .suffix)) (madeBy time os)
-  -- a granted renewal hands out the name of a key that was never made before
+  -- a granted renewal makes a waiting key and hands out its name, on every table that passes the gate
+  pub renewal-grants : (t : Table) (q : Ask) (i : ℕ) (m : Message) (g : Algorithm) → Decides t q i m (Renews g) → Granted t q i m g
+  -- and after a run from a new table no key had that name before
   pub renewal-new :
-      (time : ℕ) (os : List Operation) (q : Ask) (i : ℕ) (m : Message) (g : Algorithm)
-      → Decides (after time os) q i m (Renews g)
-      → Renewed time os q i m g
-  -- an adoption puts the new key in and the old one out together
-  pub adopts-at-once :
-      (time : ℕ) (os : List Operation) (q : Ask) (i : ℕ) (m : Message)
-      → Decides (after time os) q i m Adopts
-      → AtOnce (after time os) (called (after time os) (asks q) .table) i
+      (time : ℕ) (os : List Operation) (q : Ask) (i : ℕ) (m : Message) (g : Algorithm) (d : Decides (after time os) q i m (Renews g))
+      → NoneSame (renewal-grants (after time os) q i m g d .name) (madeBy time os)
+  -- an adoption puts the new key in and the old one out together, on every table that passes the gate
+  pub adopts-at-once : (t : Table) (q : Ask) (i : ℕ) (m : Message) → Decides t q i m Adopts → AtOnce t (called t (asks q) .table) i
   -- a run keeps the table rules
   pub rules-kept : (time : ℕ) (os : List Operation) → tableRules (after time os) ≡ true

@@ -15,20 +15,20 @@ use Rattle.model.specs.declared.Pair.{Pair}
 use Rattle.model.specs.Octets.{Reading, stops, reads}
 use Rattle.model.specs.Names.{algorithmNumbered}
 use Rattle.model.specs.Messages.{Message, readMessage}
-use Rattle.model.specs.Tsig.{Signature, unsigned, misplaced, signed, signature}
+use Rattle.model.specs.Tsig.{Signature, unsigned, misplaced, wellPlaced, signature}
 use Rattle.model.specs.Pairs.{issued}
 use Rattle.model.specs.Tables.{Row, Table, noPair, rowAt, suffixAt, pairAt, withPair, namesOf, rowNamed, isNone, suffixOk, termOk, tableRules}
 use Rattle.model.specs.Checks.{check, checkKnown}
 use Rattle.model.specs.Judging.{Holder, holder}
-use Rattle.model.specs.Calls.{NAME, TERM, TWIN, FULL, Outcome, Result, refusal, done, unchanged, gate, clockAt, withRow, firstSerial, freshPair, enrolled, enrolPassed, enrolOn, sizeOk, Call, issue, revoke, look, message, timeOf, signedBy, readBy, octetsOwner, numberOwner, ownerOf, stepOf, holderAt, servedBy, served, passed, called}
+use Rattle.model.specs.Calls.{TIME, timeFits, emptyTable, newTable, NAME, TERM, TWIN, FULL, Outcome, Result, refusal, done, unchanged, gate, clockAt, withRow, firstSerial, freshPair, enrolled, enrolPassed, enrolOn, sizeOk, Call, issue, revoke, look, message, timeOf, signedBy, readBy, octetsOwner, numberOwner, ownerOf, stepOf, holderAt, servedBy, served, passed, called}
 use Rattle.model.specs.Runs.{Operation, enrol, call, operated}
 use Rattle.model.proofs.Buffers.{overlay-length}
 use Rattle.model.proofs.Rows.{few}
 use Rattle.model.proofs.Tests.{left, right}
 use Rattle.guarantees.proofs.OneCall.{served-is, pass-rules}
 use Rattle.guarantees.proofs.Made.{owner-enrolled}
-use Rattle.layouts.specs.Runs.{Does, Ran}
-use Rattle.layouts.specs.Array.{Array, Sized, suffixIn, rowIn, rowsIn, viewOf, rowOf, putClock, putPair, putRow, signedIn, readIn, octetsIn, numberIn, ownerIn, holderIn, refusedIn, servedIn, calledIn, enrolledIn, enrolIn, operatedIn, runIn}
+use Rattle.layouts.specs.Runs.{Act, new, on, acted, Does, Ran}
+use Rattle.layouts.specs.Array.{Array, Sized, suffixIn, rowIn, rowsIn, viewOf, rowOf, putClock, putPair, putRow, signedIn, readIn, octetsIn, numberIn, ownerIn, holderIn, refusedIn, servedIn, calledIn, enrolledIn, enrolIn, newIn, operatedIn, actedIn, runIn}
 use Rattle.layouts.proofs.ArrayLaws.{view-at, view-count, view-clock, view-put, view-row, search-same, names-count}
 
 -- What an operation leaves, as it is shown.
@@ -41,7 +41,7 @@ module _ (a : Array) where
   signed-same : (s : Signature) → signedIn a s ≡ signedBy (namesOf (viewOf a)) s
   signed-same unsigned = refl
   signed-same misplaced = refl
-  signed-same (signed s) = search-same a _
+  signed-same (wellPlaced s) = search-same a _
 
   read-same : (r : Reading Message) → readIn a r ≡ readBy (namesOf (viewOf a)) r
   read-same (stops place) = refl
@@ -129,11 +129,11 @@ module _ (a : Array) (z : Sized a) (suffix : List ℕ) (lifetime fresh algorithm
   short e = leb-true (length suffix) 128 (left _ _ (right (leb 3 (length suffix)) _ e))
 
   -- the pair that is added
-  abbrev new : Algorithm → Pair
-  new g = issued (freshPair 1 lifetime fresh) (a .clock) g
+  abbrev added : Algorithm → Pair
+  added g = issued (freshPair 1 lifetime fresh) (a .clock) g
 
-  row-same : (g : Algorithm) → suffixOk suffix ≡ true → ltb (a .count) 64 ≡ true → viewOf (putRow a suffix (new g)) ≡ withRow (viewOf a) suffix (new g)
-  row-same g ok e = view-row a suffix (new g) z (ltb-true (a .count) 64 e) (short ok)
+  row-same : (g : Algorithm) → suffixOk suffix ≡ true → ltb (a .count) 64 ≡ true → viewOf (putRow a suffix (added g)) ≡ withRow (viewOf a) suffix (added g)
+  row-same g ok e = view-row a suffix (added g) z (ltb-true (a .count) 64 e) (short ok)
 
   enrolled-same : enrolled (viewOf a) suffix lifetime fresh algorithm ≡ result (enrolledIn a suffix lifetime fresh algorithm)
   unfolding enrolled enrolledIn firstSerial viewOf
@@ -157,10 +157,15 @@ module _ (a : Array) (z : Sized a) where
       ap (λ (t : Table). enrolled t suffix lifetime fresh algorithm) (sym (view-clock a (some time)))
       ∙ enrolled-same (putClock a (some time)) (sized-clock a (some time) z) suffix lifetime fresh algorithm
 
-  pub does : (o : Operation) → Does viewOf a o (operatedIn a o .0) (operatedIn a o .1)
+  operates : (o : Operation) → operated (viewOf a) o ≡ result (operatedIn a o)
   unfolding operated operatedIn enrolOn called
-  does (enrol time suffix lifetime fresh algorithm) = enrol-same time suffix lifetime fresh algorithm (gate (viewOf a) (some time))
-  does (call c) = called-same a z c (gate (viewOf a) (timeOf c)) refl
+  operates (enrol time suffix lifetime fresh algorithm) = enrol-same time suffix lifetime fresh algorithm (gate (viewOf a) (some time))
+  operates (call c) = called-same a z c (gate (viewOf a) (timeOf c)) refl
+
+  does : (o : Act) → Does viewOf a o (actedIn a o .0) (actedIn a o .1)
+  unfolding acted actedIn newTable newIn viewOf rowsIn emptyTable
+  does (new time) = check-same a TIME (timeFits time) (timeFits time) _ _ refl λ _. refl
+  does (on o) = operates o
 
 sized-pair : (a : Array) (i : ℕ) (p : Pair) → Sized a → Sized (putPair a i p)
 unfolding putPair
@@ -213,7 +218,16 @@ unfolding operatedIn
 sized-after a (enrol time suffix lifetime fresh algorithm) z = sized-enrol a time suffix lifetime fresh algorithm (gate (viewOf a) (some time)) z
 sized-after a (call c) z = sized-called a c (gate (viewOf a) (timeOf c)) z
 
+sized-new : (a : Array) (time : ℕ) → Sized a → Sized (newIn a time .0)
+unfolding newIn
+sized-new a time z = checked a z TIME (timeFits time) _ λ _. record { octets = z .octets; sizes = z .sizes; slots = z .slots }
+
+sized-then : (a : Array) (o : Act) → Sized a → Sized (actedIn a o .0)
+unfolding actedIn
+sized-then a (new time) z = sized-new a time z
+sized-then a (on o) z = sized-after a o z
+
 -- Its runs are runs.
-pub ran : (a : Array) (os : List Operation) → Sized a → Ran viewOf a os (runIn a os)
+pub ran : (a : Array) (os : List Act) → Sized a → Ran viewOf a os (runIn a os)
 ran a [] z = tt
-ran a (o ∷ os) z = (does a z o, ran (operatedIn a o .0) os (sized-after a o z))
+ran a (o ∷ os) z = (does a z o, ran (actedIn a o .0) os (sized-then a o z))

@@ -1,5 +1,5 @@
 -- 02, CR 11: runs from tables that list alike, on any two layouts. Assumes nothing.
-use Prim.Native.Nat.{ℕ}
+use Prim.Native.Nat.{ℕ, suc}
 use mathlib.Core.Bool.{false}
 use mathlib.Core.List.{List, [], _∷_}
 use mathlib.Core.Option.{Option, some}
@@ -10,10 +10,14 @@ use Rattle.model.specs.Calls.{TABLE, Outcome, Result, unchanged, gate, enrolPas
 use Rattle.model.specs.Runs.{Operation, enrol, call, operated}
 use Rattle.model.specs.Listing.{listing}
 use Rattle.model.proofs.Listings.{listing-inj}
-use Rattle.store.specs.Layout.{tableOf}
+use native.Mathlib.Omega.{arith}
+use Rattle.model.proofs.Tests.{not-so}
+use Rattle.store.specs.Layout.{layoutRule, tableOf}
+use Rattle.store.proofs.Laid.{laid, ascends}
+use Rattle.operator.proofs.Laws.{new-in}
 use Rattle.checking.proofs.Laws.{layout-words, layout-octets}
 use Rattle.ruling.proofs.Laws.{broken-layout}
-use Rattle.layouts.specs.Runs.{Does, Ran, seen}
+use Rattle.layouts.specs.Runs.{Act, acted, Does, Ran, seen}
 use Rattle.layouts.specs.Array.{viewOf, runIn}
 use Rattle.layouts.specs.Claim.{Lent, shownIn, Contracts, Covered, Claim}
 use Rattle.layouts.proofs.ArrayCalls.{ran}
@@ -22,14 +26,14 @@ use Rattle.layouts.proofs.ArrayCalls.{ran}
 
 module _ {A B : Type 0} (v : A → Table) (u : B → Table) where
   alike :
-      (x : A) (y : B) (os : List Operation) (run : List (A × Outcome)) (other : List (B × Outcome))
+      (x : A) (y : B) (os : List Act) (run : List (A × Outcome)) (other : List (B × Outcome))
       → v x ≡ u y
       → Ran v x os run
       → Ran u y os other
       → seen v run ≡ seen u other
   alike x y [] [] [] e r q = refl
   alike x y (o ∷ os) (a ∷ run) (b ∷ other) e r q =
-      let one : _≡_ {A = Result} (record { table = v (a .0); outcome = a .1 }) (record { table = u (b .0); outcome = b .1 }) = sym (r .0) ∙ ap (λ (t : Table). operated t o) e ∙ q .0 in
+      let one : _≡_ {A = Result} (record { table = v (a .0); outcome = a .1 }) (record { table = u (b .0); outcome = b .1 }) = sym (r .0) ∙ ap (λ (t : Table). acted t o) e ∙ q .0 in
       let then : v (a .0) ≡ u (b .0) = ap (λ (z : Result). z .table) one in
       ap₂ (λ (z : Outcome × List ℕ) (l : List (Outcome × List ℕ)). z ∷ l)
       (ap₂ {C = Outcome × List ℕ} (λ (z : Outcome) (l : List ℕ). (z, l)) (ap (λ (z : Result). z .outcome) one) (ap listing then))
@@ -53,13 +57,17 @@ covered = record {
   refused = λ l o e. refused (tableOf (l .0) (l .1)) (broken-layout (l .0) (l .1) e) o;
   words = λ l n. layout-words (l .0) (l .1) n;
   octets = λ l n. layout-octets (l .0) (l .1) n;
+  order = λ w s q h n. not-so (layoutRule w s) λ ok. n (ascends (laid w s ok) q (suc q) (omega arith) h);
+  numbers = λ w s i h n. not-so (layoutRule w s) λ ok. n (laid w s ok .at i h .named);
+  places = λ w s q h n. not-so (layoutRule w s) λ ok. n (laid w s ok .at q h .mapped);
 }
 
 -- ── The contracts ───────────────────────────────────────────────────────────────────────────────────────────────────
 
 contracts : Contracts
-unfolding shownIn operated issueOn revokeOn lookOn messageOn bufferAfter
+unfolding shownIn acted operated issueOn revokeOn lookOn messageOn bufferAfter
 contracts = record {
+  news = λ time w s w′ a long wide v. sym (v .says ∙ new-in time w s long wide (tableOf w s));
   enrols = λ time suffix lifetime fresh algorithm w s w′ s′ a v. sym (v .says);
   issues = λ time pair algorithm w s w′ s′ a v. sym (v .says);
   revokes = λ time pair w s w′ s′ a v. sym (v .says);

@@ -1,5 +1,5 @@
 -- The layout before 02, CR 11: rows in order of enrolment, their suffixes, lengths and pairs in three arrays, and found by comparing one row after another. It
--- is here for the claim alone: no code has it any more. Assumes nothing.
+-- is here for the claim alone: no code has it any more. Its TABLE is the test of the table that it shows. Assumes nothing.
 use Prim.Native.Nat.{ℕ, zero, suc, _+_, _-_, _*_}
 use mathlib.Core.Path.{_≡_}
 use mathlib.Core.Bool.{Bool, true, false, cond, _&&_}
@@ -11,13 +11,14 @@ use Rattle.model.specs.declared.Pair.{Pair}
 use Rattle.model.specs.Octets.{part, overlay, Reading, stops, reads}
 use Rattle.model.specs.Names.{sameName, afterLabel, algorithmNumbered}
 use Rattle.model.specs.Messages.{Message, readMessage}
-use Rattle.model.specs.Tsig.{Signature, unsigned, misplaced, signed, signature}
+use Rattle.model.specs.Tsig.{Signature, unsigned, misplaced, wellPlaced, signature}
 use Rattle.model.specs.Pairs.{issued}
 use Rattle.model.specs.Tables.{Row, Table, noPair, isNone, suffixOk, termOk}
 use Rattle.model.specs.Checks.{check, checkKnown}
 use Rattle.model.specs.Judging.{Holder, nobody, holder}
-use Rattle.model.specs.Calls.{NAME, TERM, TWIN, FULL, Outcome, refusal, done, gate, freshPair, sizeOk, Call, issue, revoke, look, message, timeOf, stepOf}
+use Rattle.model.specs.Calls.{TIME, NAME, TERM, TWIN, FULL, Outcome, refusal, done, timeFits, gate, freshPair, sizeOk, Call, issue, revoke, look, message, timeOf, stepOf}
 use Rattle.model.specs.Runs.{Operation, enrol, call}
+use Rattle.layouts.specs.Runs.{Act, new, on}
 
 pub record Array : Type 0 where
   pub clock : ℕ
@@ -34,7 +35,7 @@ pub record Sized (a : Array) : Type 0 where
 
 -- ── The view ────────────────────────────────────────────────────────────────────────────────────────────────────────
 
--- The suffix of row i. A length over 128 leads into another row: it shows an empty suffix, which breaks a table rule.
+-- The suffix of row i. A length over 128 was refused with TABLE, whatever stood there: so that what is shown breaks a rule too, it shows an empty suffix.
 unfoldable pub suffixIn : Array → ℕ → List ℕ
 suffixIn a i = cond (leb (getD (a .lengths) i 0) 128) (part (a .suffixes) (i * 128) (getD (a .lengths) i 0)) []
 
@@ -81,7 +82,7 @@ putRow a suffix p =
 abbrev pub signedIn : Array → Signature → Option ℕ
 signedIn a unsigned = none
 signedIn a misplaced = none
-signedIn a (signed s) = rowOf a (afterLabel (s .name))
+signedIn a (wellPlaced s) = rowOf a (afterLabel (s .name))
 
 abbrev pub readIn : Array → Reading Message → Option ℕ
 readIn a (stops place) = none
@@ -127,11 +128,20 @@ abbrev pub enrolIn : Array → ℕ → List ℕ → ℕ → ℕ → ℕ → Opti
 enrolIn a time suffix lifetime fresh algorithm (some n) = refusedIn a n
 enrolIn a time suffix lifetime fresh algorithm none = enrolledIn (putClock a (some time)) suffix lifetime fresh algorithm
 
+unfoldable pub newIn : Array → ℕ → Array × Outcome
+newIn a time =
+    check (refusedIn a) TIME (timeFits time)
+    (record { clock = time; count = 0; suffixes = a .suffixes; lengths = a .lengths; pairs = a .pairs }, done 0 0)
+
 unfoldable pub operatedIn : Array → Operation → Array × Outcome
 operatedIn a (enrol time suffix lifetime fresh algorithm) = enrolIn a time suffix lifetime fresh algorithm (gate (viewOf a) (some time))
 operatedIn a (call c) = calledIn a c (gate (viewOf a) (timeOf c))
 
+unfoldable pub actedIn : Array → Act → Array × Outcome
+actedIn a (new time) = newIn a time
+actedIn a (on o) = operatedIn a o
+
 -- A run.
-abbrev pub runIn : Array → List Operation → List (Array × Outcome)
+abbrev pub runIn : Array → List Act → List (Array × Outcome)
 runIn a [] = []
-runIn a (o ∷ os) = operatedIn a o ∷ runIn (operatedIn a o .0) os
+runIn a (o ∷ os) = actedIn a o ∷ runIn (actedIn a o .0) os

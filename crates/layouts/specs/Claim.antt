@@ -1,6 +1,6 @@
 -- 02, CR 11: "Prove every reply, number and listing equal to the old layout's for any run, .. from tables that list alike. TABLE now also covers the order and
 -- the map." Closing and loading join with their requests. The proof is `claim` of proofs/Claim. Assumes nothing.
-use Prim.Native.Nat.{ℕ}
+use Prim.Native.Nat.{ℕ, suc, _<_}
 use mathlib.Core.Bool.{Bool, false}
 use mathlib.Core.Option.{Option}
 use mathlib.Core.List.{List, []}
@@ -12,10 +12,13 @@ use Rattle.model.specs.Tables.{Table}
 use Rattle.model.specs.Calls.{TABLE, Outcome, unchanged, issue, revoke, look, message, enrolOn, issueOn, revokeOn, lookOn, messageOn}
 use Rattle.model.specs.Runs.{Operation, enrol, call, operated}
 use Rattle.model.specs.Listing.{listing}
-use Rattle.store.specs.Layout.{layoutRule, tableOf}
+use Rattle.ordering.specs.declared.Ordering.the-variants.{Less}
+use Rattle.ordering.specs.Order.{orderOf}
+use Rattle.store.specs.Layout.{countOf, placeOf, rowIn, suffixIn, layoutRule, tableOf}
+use Rattle.operator.specs.Made.{Made}
 use Rattle.outcomes.specs.Ends.{shown, Served}
 use Rattle.server.specs.Serve.{Answered}
-use Rattle.layouts.specs.Runs.{Does, Ran, seen}
+use Rattle.layouts.specs.Runs.{Act, new, on, Does, Ran, seen}
 use Rattle.layouts.specs.Array.{Array, Sized, viewOf, runIn}
 
 -- The words and the octets, and the table that they show.
@@ -28,25 +31,29 @@ shownIn l = tableOf (l .0) (l .1)
 -- A message call that was answered so.
 pub record Messaged (time : ℕ) (good : Bool) (offer m w s w′ b b′ : List ℕ) (a : Answer) : Type 0 where
   pub outcome : Outcome
-  pub does : Does shownIn (w, s) (call (message time good offer (length b) m)) (w′, s) outcome
+  pub does : Does shownIn (w, s) (on (call (message time good offer (length b) m))) (w′, s) outcome
   pub answer : a ≡ outcome .answer
   pub reply : b′ ≡ put (outcome .reply) b
 
 -- The contracts of the calls make what the code does on lent words and octets a run.
 pub record Contracts : Type 1 where
+  pub news :
+      (time : ℕ) (w s w′ : List ℕ) (a : Answer) → length w ≡ 1091 → length s ≡ 8192
+      → Made time w s w′ a
+      → Does shownIn (w, s) (new time) (w′, s) (record { answer = a; reply = [] })
   pub enrols :
       (time : ℕ) (suffix : List ℕ) (lifetime fresh algorithm : ℕ) (w s w′ s′ : List ℕ) (a : Answer)
       → Served (λ t. enrolOn t time suffix lifetime fresh algorithm) w s w′ s′ a
-      → Does shownIn (w, s) (enrol time suffix lifetime fresh algorithm) (w′, s′) (record { answer = a; reply = [] })
+      → Does shownIn (w, s) (on (enrol time suffix lifetime fresh algorithm)) (w′, s′) (record { answer = a; reply = [] })
   pub issues :
       (time pair algorithm : ℕ) (w s w′ s′ : List ℕ) (a : Answer)
       → Served (λ t. issueOn t time pair algorithm) w s w′ s′ a
-      → Does shownIn (w, s) (call (issue time pair algorithm)) (w′, s′) (record { answer = a; reply = [] })
+      → Does shownIn (w, s) (on (call (issue time pair algorithm))) (w′, s′) (record { answer = a; reply = [] })
   pub revokes :
       (time pair : ℕ) (w s w′ s′ : List ℕ) (a : Answer)
       → Served (λ t. revokeOn t time pair) w s w′ s′ a
-      → Does shownIn (w, s) (call (revoke time pair)) (w′, s′) (record { answer = a; reply = [] })
-  pub looks : (m w s : List ℕ) (a : Answer) → shown w s a ≡ lookOn (tableOf w s) m → Does shownIn (w, s) (call (look m)) (w, s) (record { answer = a; reply = [] })
+      → Does shownIn (w, s) (on (call (revoke time pair))) (w′, s′) (record { answer = a; reply = [] })
+  pub looks : (m w s : List ℕ) (a : Answer) → shown w s a ≡ lookOn (tableOf w s) m → Does shownIn (w, s) (on (call (look m))) (w, s) (record { answer = a; reply = [] })
   -- a message's outcome is its answer, and a reply that fills the first octets of its buffer
   pub messages :
       (time : ℕ) (good : Bool) (offer m : List ℕ) (own : Option ℕ) (w s w′ b b′ : List ℕ) (a : Answer)
@@ -58,20 +65,24 @@ pub record Covered : Type 0 where
   pub refused : (l : Lent) (o : Operation) → layoutRule (l .0) (l .1) ≡ false → operated (shownIn l) o ≡ unchanged (shownIn l) TABLE
   pub words : (l : Lent) → (length (l .0) ≡ 1091 → ⊥) → layoutRule (l .0) (l .1) ≡ false
   pub octets : (l : Lent) → (length (l .1) ≡ 8192 → ⊥) → layoutRule (l .0) (l .1) ≡ false
+  -- so do two places that are not in order, a number whose place does not name it, and a place whose row does not lead back to it
+  pub order : (w s : List ℕ) (q : ℕ) → suc q < countOf w → (orderOf (suffixIn w s q) (suffixIn w s (suc q)) ≡ Less → ⊥) → layoutRule w s ≡ false
+  pub numbers : (w s : List ℕ) (n : ℕ) → n < countOf w → (rowIn w (placeOf w n) ≡ n → ⊥) → layoutRule w s ≡ false
+  pub places : (w s : List ℕ) (q : ℕ) → q < countOf w → (placeOf w (rowIn w q) ≡ q → ⊥) → layoutRule w s ≡ false
 
 pub record Claim : Type 1 where
   pub contracts : Contracts
   pub covered : Covered
-  -- from lent tables that list alike, whatever their words, any run ends alike, operation by operation
+  -- from lent tables that list alike, whatever their words, any run ends alike, act by act
   pub lent :
-      (l m : Lent) (os : List Operation) (run other : List (Lent × Outcome))
+      (l m : Lent) (os : List Act) (run other : List (Lent × Outcome))
       → listing (shownIn l) ≡ listing (shownIn m)
       → Ran shownIn l os run
       → Ran shownIn m os other
       → seen shownIn run ≡ seen shownIn other
   -- and as the layout before did
   pub before :
-      (l : Lent) (a : Array) (os : List Operation) (run : List (Lent × Outcome))
+      (l : Lent) (a : Array) (os : List Act) (run : List (Lent × Outcome))
       → Sized a
       → listing (shownIn l) ≡ listing (viewOf a)
       → Ran shownIn l os run

@@ -3,22 +3,31 @@ use Prim.Native.Nat.{ℕ}
 use mathlib.Core.Path.{_≡_}
 use mathlib.Core.List.{List, [], _∷_}
 use Rattle.model.specs.Tables.{Table}
-use Rattle.model.specs.Calls.{Outcome}
+use Rattle.model.specs.Calls.{Outcome, Result, newTable}
 use Rattle.model.specs.Runs.{Operation, operated}
 use Rattle.model.specs.Listing.{listing}
 
--- What is proved of the code of an operation o: on l it leaves l′ and ends with x, as the definition does on the table that is shown.
-abbrev pub Does : {L : Type 0} → (L → Table) → L → Operation → L → Outcome → Type 0
-Does view l o l′ x = operated (view l) o ≡ record { table = view l′; outcome = x }
+-- What is done: a new table in the place of the one that is there, or an operation on it.
+pub data Act : Type 0 where
+  new : ℕ → Act
+  on : Operation → Act
 
--- A run of such code from l: what each operation leaves and ends with.
-abbrev pub Ran : {L : Type 0} → (L → Table) → L → List Operation → List (L × Outcome) → Type 0
+unfoldable pub acted : Table → Act → Result
+acted t (new time) = newTable t time
+acted t (on o) = operated t o
+
+-- What is proved of the code of an act o: on l it leaves l′ and ends with x, as the definition does on the table that is shown.
+abbrev pub Does : {L : Type 0} → (L → Table) → L → Act → L → Outcome → Type 0
+Does view l o l′ x = acted (view l) o ≡ record { table = view l′; outcome = x }
+
+-- A run of such code from l: what each act leaves and ends with.
+abbrev pub Ran : {L : Type 0} → (L → Table) → L → List Act → List (L × Outcome) → Type 0
 Ran view l [] [] = Unit {0}
 Ran view l [] (e ∷ run) = ⊥
 Ran view l (o ∷ os) [] = ⊥
 Ran view l (o ∷ os) (e ∷ run) = Does view l o (e .0) (e .1) × Ran view (e .0) os run
 
--- What is seen of it, operation by operation: numbers and reply, and the listing afterwards.
+-- What is seen of it, act by act: numbers and reply, and the listing afterwards.
 abbrev pub seen : {L : Type 0} → (L → Table) → List (L × Outcome) → List (Outcome × List ℕ)
 seen view [] = []
 seen view (e ∷ run) = (e .1, listing (view (e .0))) ∷ seen view run

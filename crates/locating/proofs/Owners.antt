@@ -10,7 +10,7 @@ use Rattle.model.specs.declared.Pair.{Pair}
 use Rattle.model.specs.Octets.{Reading, stops, reads}
 use Rattle.model.specs.Names.{afterLabel}
 use Rattle.model.specs.Messages.{Message, readMessage}
-use Rattle.model.specs.Tsig.{Signature, unsigned, misplaced, signed, signature}
+use Rattle.model.specs.Tsig.{Signature, unsigned, misplaced, wellPlaced, signature}
 use Rattle.model.specs.Tables.{Table, namesOf, pairAt, suffixAt}
 use Rattle.model.specs.Judging.{holder}
 use Rattle.model.specs.Calls.{sizeOk, signedBy, readBy, octetsOwner, holderAt}
@@ -53,7 +53,7 @@ module _ (n : List (List ℕ)) (i : ℕ) where
   below-signed : (s : Signature) → signedBy n s ≡ some i → i < length n
   below-signed unsigned e = absurd (Option·none-ne-some i e)
   below-signed misplaced e = absurd (Option·none-ne-some i e)
-  below-signed (signed s) e = row-below n (afterLabel (s .name)) i e
+  below-signed (wellPlaced s) e = row-below n (afterLabel (s .name)) i e
 
   below-read : (r : Reading Message) → readBy n r ≡ some i → i < length n
   below-read (stops place) e = absurd (Option·none-ne-some i e)

@@ -23,7 +23,8 @@ use Rattle.model.proofs.CallLaws.{number-none, number-some, issue-nopair, issue
 use Rattle.pairs.specs.declared.Held.{Held}
 use Rattle.pairs.specs.declared.Held.the-variants.{Nothing, Is}
 use Rattle.pairs.specs.Held.{keyOf}
-use Rattle.pairs.specs.Fits.{Fits}
+use Rattle.pairs.specs.Fits.{Fits, issuedIn}
+use Rattle.pairs.proofs.Fit.{issued-fits}
 use Rattle.pairs.proofs.Fit.{rule-fits}
 use Rattle.store.specs.Layout.{countOf, layoutRule, tableOf}
 use Rattle.store.specs.Stored.{Cleared}
@@ -86,8 +87,8 @@ pub fresh-fits : (lifetime fresh time : ℕ) → termOk lifetime fresh ≡ true 
 unfolding pairRule serialRule keysRule freshPair
 fresh-fits lifetime fresh time e h = rule-fits 0 time (freshPair 1 lifetime fresh) (rw e refl) h
 
-pub first-made : (lifetime fresh time : ℕ) (g : Algorithm) {p r : Pair} → p ≡ freshPair 1 lifetime fresh → termOk lifetime fresh ≡ true → timeFits time ≡ true → (Fits p time → r ≡ issued p time g) → r ≡ issued (freshPair 1 lifetime fresh) time g
-first-made lifetime fresh time g is e h f = f (rw is (fresh-fits lifetime fresh time e h)) ∙ ap (λ (p : Pair). issued p time g) is
+pub first-made : (lifetime fresh time : ℕ) (g : Algorithm) {p r : Pair} → p ≡ freshPair 1 lifetime fresh → termOk lifetime fresh ≡ true → timeFits time ≡ true → r ≡ issuedIn p time g → r ≡ issued (freshPair 1 lifetime fresh) time g
+first-made lifetime fresh time g {p} is e h f = f ∙ issued-fits p time g (rw is (fresh-fits lifetime fresh time e h)) ∙ ap (λ (p : Pair). issued p time g) is
 
 pub row-added : (w s : List ℕ) (ok : layoutRule w s ≡ true) {suffix : List ℕ} {p : Pair} {w′ s′ : List ℕ} → Inserted suffix p w s w′ s′ → {a : Answer} → a ≡ done (countOf w + 1) 1 .answer → RowAdded suffix p w s w′ s′ a
 unfolding done

@@ -1,7 +1,7 @@
 -- Laws of reading a reply as the code makes it. Assumes nothing.
 use Prim.Native.Nat.{ℕ, _%_, _≤_}
 use mathlib.Core.Path.{_≡_, refl, ap, sym, subst, _∙_}
-use mathlib.Core.Bool.{Bool, true, false}
+use mathlib.Core.Bool.{Bool, true, false, _&&_}
 use mathlib.Core.List.{List}
 use native.Mathlib.Omega.{arith}
 use lib.Dec.{eqb}
@@ -108,9 +108,9 @@ module _ (s : Resolver) (asking : Asking) (m : List ℕ) (end : ℕ) (response :
       }
 
 pub hears : (s : Resolver) (asking : Asking) (m : List ℕ) (end : ℕ) (response : Bool) (error : ℕ) (r : Resolver) → Accepts s asking m end response error r
-    → Hears s asking m end response error (record { number = 0; due = eqb error 3841; state = r })
+    → Hears s asking m end response error (record { number = 0; due = response && eqb error 3841; state = r })
 unfolding heard partialRevoke
-hears s asking m end response error r a = record { says = λ q w t e. rw (a .says q w t e, e) refl }
+hears s asking m end response error r a = record { says = λ q w t e. rw (a .says q w t e, w .responds, e) refl }
 
 -- ── Checks ──────────────────────────────────────────────────────────────────────────────────────────────────────────
 

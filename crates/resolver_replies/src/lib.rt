@@ -255,7 +255,7 @@ fn accept(
     moved_in(after, asking, m, end)
 }
 
-// A reply past the checks, with this TSIG error; PartialRevoke says that renewal is due.
+// A message past the checks, with this TSIG error; in a reply PartialRevoke says that renewal is due.
 fn hear(s: Resolver, asking: Asking, m: &[u8], end: usize, response: bool, error: usize) -> Heard
     requires { ⌜ 12 ≤ length (now m) ⌝ }
     ensures { λ r. ⌜ Hears s asking (now (m .entry)) end response error r ⌝ }
@@ -263,7 +263,7 @@ fn hear(s: Resolver, asking: Asking, m: &[u8], end: usize, response: bool, error
     let state = accept(s, asking, m, end, response, error);
     Heard {
         number: 0,
-        due: error == 3841,
+        due: response & (error == 3841),
         state,
     }
 }

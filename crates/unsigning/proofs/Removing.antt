@@ -10,7 +10,7 @@ use lib.ListN.{length, length-append}
 use borrow.Author.Tests.{le-leb, lt-leb}
 use Rattle.model.specs.Octets.{be16, u16At, part, Reading, stops, reads}
 use Rattle.model.specs.Messages.{Message, readMessage}
-use Rattle.model.specs.Tsig.{Tsig, Signature, unsigned, misplaced, signed, signature}
+use Rattle.model.specs.Tsig.{Tsig, Signature, unsigned, misplaced, wellPlaced, signature}
 use Rattle.model.specs.Checks.{check, checkRead}
 use Rattle.model.specs.Calls.{SIZE, FORMAT, ROOM, sizeOk}
 use Rattle.model.specs.Signing.{Assembled, unassembled, ReadBack, unread, readBack, checkSigned, removed, removedIn}
@@ -41,7 +41,7 @@ module _ (m : List ℕ) (room : ℕ) where
   unfolding unread
   by-signature unsigned = refl
   by-signature misplaced = refl
-  by-signature (signed t) = refl
+  by-signature (wellPlaced t) = refl
 
   by-message : (x : Reading Message)
       → checkRead unassembled FORMAT x (λ q. checkSigned unassembled FORMAT (signature (q .records)) (λ t. roomed m room))

@@ -557,7 +557,8 @@ fn due(maker: &mut Maker, item: &str) -> bool {
         _ => 3841,
     };
     let mut want = match way {
-        "3840" | "3842" => Read::Closed,
+        // A message that is no reply makes nothing due.
+        "3840" | "3842" | "3841 with QR 0" => Read::Closed,
         _ => Read::Due,
     };
     let mut octets = reply.octets();

@@ -19,6 +19,7 @@ function shown(call,    words, n, i, text) {
 # What a result says, in words.
 function meaning(call,    verb) {
     split(call, verb, " ")
+    if ($1 == 6) return "refused: FORMAT, broken at octet " $8
     if ($1 > 0) return "refused: " refusal[$1]
     if (verb[1] == "new") return "a new table"
     if (verb[1] == "enrol" || verb[1] == "issue") return "pair " $5 " has key " $6

@@ -19,7 +19,7 @@ enum luffcringle_number {
     LUFFCRINGLE_CLOCK = 3,     /* time is before the table's clock */
     LUFFCRINGLE_SIZE = 4,      /* message shorter than 12 or longer than 65535 octets */
     LUFFCRINGLE_OFFER = 5,     /* offered key data over 1024 octets */
-    LUFFCRINGLE_FORMAT = 6,    /* message breaks a reading rule */
+    LUFFCRINGLE_FORMAT = 6,    /* message breaks a reading rule, at the place that the answer gives */
     LUFFCRINGLE_NOTQUERY = 7,  /* QR bit is 1 */
     LUFFCRINGLE_ROOM = 8,      /* reply longer than the lent buffer or than 65535 octets */
     LUFFCRINGLE_NOPAIR = 9,    /* pair number not enrolled */
@@ -62,15 +62,20 @@ struct luffcringle_table {
     uint8_t suffixes[LUFFCRINGLE_TABLE_OCTETS];
 };
 
-/* The answer: six words, which every call writes. A refusal writes its number and 0 in all others. */
-#define LUFFCRINGLE_ANSWER_WORDS 6
+/* The answer: seven words, which every call writes. A refusal writes its number, FORMAT its place, and 0 in all others.
+ *
+ * The place tells an operator where to open the message: it is the octet, from 0, that first breaks a rule in the order of reading, or the first that
+ * is left over, or the message's length where an octet is missing. Of a pointer with a forbidden target it is the pointer's first octet; of a name too
+ * long, the length octet of the label that takes it, its final 0 counted, past 255. Behind a pointer it can be lower than octets read before. */
+#define LUFFCRINGLE_ANSWER_WORDS 7
 enum luffcringle_answer {
     LUFFCRINGLE_NUMBER = 0,  /* as returned */
     LUFFCRINGLE_LENGTH = 1,  /* octets of the reply; 0 where there is none */
     LUFFCRINGLE_ERROR = 2,   /* the TSIG error of the reply; 0 where there is none */
     LUFFCRINGLE_SKEW = 3,    /* time signed minus time, of a message that is passed up: cast to int64_t (two's complement) */
     LUFFCRINGLE_PAIR = 4,    /* the pair of the key that signed, was made, revoked or found; 0 where there is none */
-    LUFFCRINGLE_SERIAL = 5   /* that key's serial */
+    LUFFCRINGLE_SERIAL = 5,  /* that key's serial */
+    LUFFCRINGLE_PLACE = 6    /* where reading failed, beside FORMAT; else 0 */
 };
 
 /* What every call keeps to:
@@ -84,7 +89,7 @@ enum luffcringle_answer {
  * - A call reads and writes only what it is lent, keeps nothing and allocates nothing. Two threads may call at the same time, but not on one table:
  *   a call may not write a table that another call reads or writes. Two looks may share one.
  * - Pointers: none is null, also where the length is 0; each leads to as many words or octets as its length says (words: 1091, suffixes: 8192,
- *   answer: 6), aligned for its type; what is written (what is not const) overlaps nothing else that is lent. That is the caller's to keep: no call
+ *   answer: 7), aligned for its type; what is written (what is not const) overlaps nothing else that is lent. That is the caller's to keep: no call
  *   can test it.
  * - Times are seconds since 1970. MACs, secrets and key data are the caller's. */
 

@@ -9,7 +9,7 @@ import subprocess
 import sys
 
 SCRIPT = b"new 5\n" + b"list\n" * 20_000
-FIRST = b"0 0 0 0 0 0 -\n"
+FIRST = b"0 0 0 0 0 0 - 0\n"
 WHOLE = FIRST + b"clock\t5\n" * 20_000
 
 

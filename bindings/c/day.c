@@ -119,7 +119,7 @@ static void print_answer(void) {
     if (length == 0)
         putchar('-');
     print_hex(reply, length);
-    putchar('\n');
+    printf(" %" PRIu64 "\n", answer[LUFFCRINGLE_PLACE]);
 }
 
 static void print_key(const char *state, const uint64_t *key) {

@@ -1,7 +1,7 @@
 //! The six calls. 01 "The desk's business" and "Numbers a caller sees".
 
 use crate::judging::{self, Case, Denial, Outcome, Ruling, Signer};
-use crate::names;
+use crate::names::{self, Place};
 use crate::reply;
 use crate::table::{are_terms, Algorithm, Keys, Pair, Table, MOST_PAIRS, SERIAL_LIMIT};
 use crate::wire::Message;
@@ -9,15 +9,16 @@ use crate::wire::Message;
 /// The first time that is refused.
 pub const TIME_LIMIT: u64 = (1 << 48) - (1 << 31);
 
-/// The refusals of 01's table and CR 3's, `as u8` their numbers.
+/// The refusals of 01's table.
 #[derive(Clone, Copy, Debug, PartialEq, Eq)]
 pub enum Refusal {
-    Table = 1,
+    Table,
     Time,
     Clock,
     Size,
     Offer,
-    Format,
+    /// CR 6: with the place where reading failed.
+    Format(Place),
     NotQuery,
     Room,
     NoPair,
@@ -27,7 +28,37 @@ pub enum Refusal {
     Term,
     Twin,
     Full,
-    MacSize,
+}
+
+impl Refusal {
+    /// 01 "Numbers a caller sees".
+    pub fn number(self) -> u8 {
+        match self {
+            Refusal::Table => 1,
+            Refusal::Time => 2,
+            Refusal::Clock => 3,
+            Refusal::Size => 4,
+            Refusal::Offer => 5,
+            Refusal::Format(_) => 6,
+            Refusal::NotQuery => 7,
+            Refusal::Room => 8,
+            Refusal::NoPair => 9,
+            Refusal::NoKey => 10,
+            Refusal::Spent => 11,
+            Refusal::Name => 12,
+            Refusal::Term => 13,
+            Refusal::Twin => 14,
+            Refusal::Full => 15,
+        }
+    }
+
+    /// CR 6: the place beside FORMAT, else 0.
+    pub fn place(self) -> Place {
+        match self {
+            Refusal::Format(place) => place,
+            _ => 0,
+        }
+    }
 }
 
 /// What a call returns that is DONE.
@@ -128,7 +159,7 @@ pub fn revoke(table: &mut Table, time: u64, number: u64) -> Result<Done, Refusal
 /// nothing, takes no time.
 pub fn look(table: &Table, octets: &[u8]) -> Result<Done, Refusal> {
     ensure(table.keeps_rules(), Refusal::Table)?;
-    check_size(octets)?;
+    ensure(is_sized(octets), Refusal::Size)?;
     let tsig = read_query(octets)?.tsig().ok().flatten();
     let signer = tsig.and_then(|tsig| judging::find_signer(table, &tsig));
     Ok(Done::with_signer(signer))
@@ -146,7 +177,7 @@ pub fn message(
     reply: &mut [u8],
 ) -> Result<Done, Refusal> {
     open(table, time)?;
-    check_size(octets)?;
+    ensure(is_sized(octets), Refusal::Size)?;
     ensure(offer.len() <= 1024, Refusal::Offer)?;
     let message = &read_query(octets)?;
     let case = Case {
@@ -160,13 +191,15 @@ pub fn message(
     match ruling {
         Ok(Ruling::PassUp { skew }) => done.skew = skew,
         Err(Denial { rcode, error }) => {
-            done.length = reply::write_denial(message, rcode, reply)?;
+            let length = reply::write_denial(message, rcode, reply);
+            done.length = length.ok_or(Refusal::Room)?;
             done.error = error;
         }
         Ok(Ruling::Tkey(index, mut tkey, outcome)) => {
             let pair = &mut table.pairs[index];
             reply::answer(&mut tkey, &outcome, &pair.suffix, offer);
-            done.length = reply::write_outcome(message, &tkey, &outcome, reply)?;
+            let length = reply::write_outcome(message, &tkey, &outcome, reply);
+            done.length = length.ok_or(Refusal::Room)?;
             change_keys(pair, &outcome, time);
         }
     }
@@ -186,7 +219,7 @@ fn change_keys(pair: &mut Pair, outcome: &Outcome, time: u64) {
 }
 
 /// Refuses unless something holds.
-pub(crate) fn ensure(holds: bool, refusal: Refusal) -> Result<(), Refusal> {
+pub(crate) fn ensure<R>(holds: bool, refusal: R) -> Result<(), R> {
     holds.then_some(()).ok_or(refusal)
 }
 
@@ -201,13 +234,13 @@ fn open(table: &mut Table, time: u64) -> Result<(), Refusal> {
 }
 
 /// 01, number 4.
-pub(crate) fn check_size(octets: &[u8]) -> Result<(), Refusal> {
-    ensure((12..=65_535).contains(&octets.len()), Refusal::Size)
+pub(crate) fn is_sized(octets: &[u8]) -> bool {
+    (12..=65_535).contains(&octets.len())
 }
 
 /// 01, numbers 6 and 7.
 fn read_query(octets: &[u8]) -> Result<Message<'_>, Refusal> {
-    let message = Message::read(octets).ok_or(Refusal::Format)?;
+    let message = Message::read(octets).map_err(Refusal::Format)?;
     ensure(!message.is_response(), Refusal::NotQuery)?;
     Ok(message)
 }

@@ -1,5 +1,8 @@
 //! Wire names. 01 "Reading", first paragraph; RFC 1035 §3.1 and §4.1.4.
 
+/// The place of an octet in a message, from 0: where reading first failed (CR 6).
+pub type Place = usize;
+
 /// The most octets of an expanded name, its final 0 counted (01 "Reading").
 pub const LONGEST: usize = 255;
 
@@ -87,47 +90,57 @@ pub fn after_first_label(name: &[u8]) -> Option<&[u8]> {
     }
 }
 
-/// 01 "Reading": the place after the name at `start`, if the name is good.
-pub fn skip(message: &[u8], start: usize) -> Option<usize> {
+/// 01 "Reading": the place after the name at `start`, or the one where the name
+/// breaks a rule.
+pub fn skip(message: &[u8], start: usize) -> Result<usize, Place> {
     walk(message, start, |_| ())
 }
 
 /// 01 "Reading": the name at `start`, written out.
-pub fn expand(message: &[u8], start: usize) -> Option<Name> {
+pub fn expand(message: &[u8], start: usize) -> Result<Name, Place> {
     let mut name = Name::empty();
     walk(message, start, |label| name.push(label))?;
     name.push(&[0]);
-    Some(name)
+    Ok(name)
 }
 
 /// 01 "Reading": follows labels and pointers from `start`, hands each label
 /// with its length octet to `take`, and answers with the place after the name.
 /// A pointer leads below the place where its own label run began; a pointer
 /// with no label before it is an empty run that begins at itself (ruling 3).
-fn walk<'a>(message: &'a [u8], start: usize, mut take: impl FnMut(&'a [u8])) -> Option<usize> {
+///
+/// CR 6, the place of a failure: the message's length where an octet is
+/// missing, else the first octet of the label or pointer that breaks a rule.
+/// A label too long for its name is so whether or not all of it is there.
+fn walk<'a>(
+    message: &'a [u8],
+    start: usize,
+    mut take: impl FnMut(&'a [u8]),
+) -> Result<usize, Place> {
+    let missing = message.len();
     let mut place = start;
     let mut run = start;
     let mut length = 0;
     let mut after_pointer = None;
     loop {
-        let first = *message.get(place)?;
+        let first = *message.get(place).ok_or(missing)?;
         match first {
-            0 => return Some(after_pointer.unwrap_or(place + 1)),
+            0 => return Ok(after_pointer.unwrap_or(place + 1)),
             1..=63 => {
-                let label = message.get(place..place + 1 + usize::from(first))?;
-                length += label.len();
+                let size = 1 + usize::from(first);
+                length += size;
                 if length + 1 > LONGEST {
-                    return None;
+                    return Err(place);
                 }
-                take(label);
-                place += label.len();
+                take(message.get(place..place + size).ok_or(missing)?);
+                place += size;
             }
-            64..=191 => return None,
+            64..=191 => return Err(place),
             192..=255 => {
-                let second = *message.get(place + 1)?;
+                let second = *message.get(place + 1).ok_or(missing)?;
                 let target = usize::from(u16::from_be_bytes([first & 0x3f, second]));
                 if target < FIRST_TARGET || target >= run {
-                    return None;
+                    return Err(place);
                 }
                 after_pointer.get_or_insert(place + 2);
                 run = target;

@@ -1,12 +1,12 @@
 //! Replies. 01 "The reply"; RFC 1035 §4.1.1, RFC 2930 §2, 002 §2.4.2, §2.5.2.
 
-use crate::calls::Refusal;
 use crate::judging::Outcome;
 use crate::names::Name;
 use crate::wire::{Message, Tkey, ANY, TKEY};
 
 /// 01 "Judging": earlier steps than 9 answer with RCODE and no TKEY record.
-pub fn write_denial(message: &Message, rcode: u16, reply: &mut [u8]) -> Result<usize, Refusal> {
+/// `None` is ROOM, here and below.
+pub fn write_denial(message: &Message, rcode: u16, reply: &mut [u8]) -> Option<usize> {
     write(&[&header(message, rcode, 0, 0), message.questions], reply)
 }
 
@@ -17,10 +17,10 @@ pub fn write_outcome(
     tkey: &Tkey,
     outcome: &Outcome,
     reply: &mut [u8],
-) -> Result<usize, Refusal> {
+) -> Option<usize> {
     // Data too long for RDLENGTH makes the reply too long as well.
     let data_size = tkey.algorithm.len() + 16 + tkey.key_data.len() + tkey.other_data.len();
-    let data_size = u16::try_from(data_size).map_err(|_| Refusal::Room)?;
+    let data_size = u16::try_from(data_size).ok()?;
     let (key_owner, key_rest) = match outcome {
         Outcome::Renewed(_, record) => (record.owner(), record.after_owner),
         _ => (None, &[][..]),
@@ -81,16 +81,16 @@ fn header(message: &Message, rcode: u16, answers: u16, additional: u16) -> [u8; 
 
 /// 01, number 8: writes the pieces one after another as a message, or nothing
 /// at all.
-pub fn write(pieces: &[&[u8]], reply: &mut [u8]) -> Result<usize, Refusal> {
+pub fn write(pieces: &[&[u8]], reply: &mut [u8]) -> Option<usize> {
     let most = reply.len().min(65_535);
     lay(pieces, &mut reply[..most])
 }
 
 /// The same for octets that are no message and may be more.
-pub fn lay(pieces: &[&[u8]], buffer: &mut [u8]) -> Result<usize, Refusal> {
+pub fn lay(pieces: &[&[u8]], buffer: &mut [u8]) -> Option<usize> {
     let length = pieces.iter().map(|piece| piece.len()).sum();
     if length > buffer.len() {
-        return Err(Refusal::Room);
+        return None;
     }
     let mut rest = buffer;
     for piece in pieces {
@@ -98,5 +98,5 @@ pub fn lay(pieces: &[&[u8]], buffer: &mut [u8]) -> Result<usize, Refusal> {
         place.copy_from_slice(piece);
         rest = after;
     }
-    Ok(length)
+    Some(length)
 }

@@ -227,7 +227,7 @@ impl Resolver {
     /// whether renewal is due. A refusal leaves the request open.
     pub fn reply(&mut self, good: bool, octets: &[u8]) -> Result<bool, Refusal> {
         ensure((12..=65_535).contains(&octets.len()), Refusal::Format)?;
-        let message = Message::read(octets).ok_or(Refusal::Format)?;
+        let message = Message::read(octets).map_err(|_| Refusal::Format)?;
         let Request { id, asked } = self.open.ok_or(Refusal::Lost)?;
         ensure(message.id == id, Refusal::WrongId)?;
         let tsig = message.tsig().ok().flatten();

@@ -149,7 +149,7 @@ impl Runner {
     }
 
     /// SCRIPT.md, the signing calls' lines: those that write octets.
-    fn sign(&mut self, words: &[&[u8]]) -> Option<Result<usize, Refusal>> {
+    fn sign(&mut self, words: &[&[u8]]) -> Option<Result<usize, signing::Refusal>> {
         let buffer = &mut self.buffer;
         let (call, message, fields, room, mac) = match *words {
             [b"remove", message, room] => {
@@ -322,17 +322,18 @@ fn print_bad_line(line: u64, out: &mut Vec<u8>) {
     print(out, format_args!("bad line {line}\n"));
 }
 
-/// SCRIPT.md: NUMBER LENGTH TSIGERROR SKEW PAIR SERIAL REPLY. A refusal
-/// returns its number, all else 0.
+/// SCRIPT.md: NUMBER LENGTH TSIGERROR SKEW PAIR SERIAL REPLY PLACE. A refusal
+/// returns its number, FORMAT its place (CR 6), all else 0.
 fn print_result(result: Result<Done, Refusal>, reply: &[u8], out: &mut Vec<u8>) {
-    let number = result.err().map_or(0, |refusal| refusal as u8);
+    let number = result.err().map_or(0, Refusal::number);
+    let place = result.err().map_or(0, Refusal::place);
     let done = result.unwrap_or_default();
     let (length, error, skew) = (done.length, done.error, done.skew);
     let (pair, serial) = (done.pair, done.serial);
     let text = format_args!("{number} {length} {error} {skew} {pair} {serial} ");
     print(out, text);
     print_octets(&reply[..length], out);
-    out.push(b'\n');
+    print(out, format_args!(" {place}\n"));
 }
 
 /// SCRIPT.md: octets in a result, `-` for none.
@@ -356,7 +357,7 @@ fn print_written(result: Result<Written, resolver::Refusal>, buffer: &[u8], out:
 }
 
 /// SCRIPT.md: NUMBER LENGTH OCTETS. A refusal has all else 0 or `-`.
-fn print_signing(result: Result<usize, Refusal>, buffer: &[u8], out: &mut Vec<u8>) {
+fn print_signing(result: Result<usize, signing::Refusal>, buffer: &[u8], out: &mut Vec<u8>) {
     let number = result.err().map_or(0, |refusal| refusal as u8);
     let length = result.unwrap_or_default();
     print(out, format_args!("{number} {length} "));
@@ -365,7 +366,7 @@ fn print_signing(result: Result<usize, Refusal>, buffer: &[u8], out: &mut Vec<u8
 }
 
 /// SCRIPT.md: NUMBER NAME ALGORITHM SIGNED FUDGE MAC ID ERROR OTHER.
-fn print_tsig(result: Result<Tsig, Refusal>, out: &mut Vec<u8>) {
+fn print_tsig(result: Result<Tsig, signing::Refusal>, out: &mut Vec<u8>) {
     let tsig = match result {
         Ok(tsig) => tsig,
         Err(refusal) => return print(out, format_args!("{} - - 0 0 - 0 0 -\n", refusal as u8)),

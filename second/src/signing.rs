@@ -1,7 +1,7 @@
 //! The octets under a signature, and the TSIG put on and taken off. CR 3;
 //! RFC 8945 §4.2 and §4.3. The MAC itself is the caller's.
 
-use crate::calls::{check_size, ensure, Refusal};
+use crate::calls::{ensure, is_sized};
 use crate::names;
 use crate::reply::{lay, write};
 use crate::wire::{Message, Tsig, ANY, TSIG};
@@ -10,6 +10,17 @@ use crate::wire::{Message, Tsig, ANY, TSIG};
 const SIGNED_LIMIT: u64 = 1 << 48;
 /// The most octets of a MAC that is given: the output of hmac-sha512.
 const LONGEST_MAC: usize = 64;
+
+/// The refusals of CR 3, `as u8` their numbers. FORMAT has no place here.
+#[derive(Clone, Copy, Debug, PartialEq, Eq)]
+pub enum Refusal {
+    Time = 2,
+    Size = 4,
+    Format = 6,
+    Room = 8,
+    Name = 12,
+    MacSize = 16,
+}
 
 /// RFC 8945 §4.2: what a TSIG says beside its MAC.
 #[derive(Clone, Copy, Debug)]
@@ -83,13 +94,12 @@ pub fn finish(
         &size(&data)?,
         &data,
     ];
-    write(&pieces, buffer)
+    write(&pieces, buffer).ok_or(Refusal::Room)
 }
 
 /// CR 3: the well-placed TSIG of a message.
 pub fn read_back(octets: &[u8]) -> Result<Tsig<'_>, Refusal> {
-    check_size(octets)?;
-    let message = Message::read(octets).ok_or(Refusal::Format)?;
+    let message = read(octets)?;
     message.tsig().ok().flatten().ok_or(Refusal::Format)
 }
 
@@ -99,13 +109,18 @@ pub fn remove(octets: &[u8], buffer: &mut [u8]) -> Result<usize, Refusal> {
     let tsig = read_back(octets)?;
     let count = additional_count(octets) - 1;
     let rest = &octets[12..tsig.place];
-    write(&[&octets[..10], &count.to_be_bytes(), rest], buffer)
+    write(&[&octets[..10], &count.to_be_bytes(), rest], buffer).ok_or(Refusal::Room)
+}
+
+/// CR 3: the first two refusals.
+fn read(octets: &[u8]) -> Result<Message<'_>, Refusal> {
+    ensure(is_sized(octets), Refusal::Size)?;
+    Message::read(octets).map_err(|_| Refusal::Format)
 }
 
 /// CR 3: the refusals before ROOM, in their order.
 fn check(octets: &[u8], fields: &Fields, mac: &[u8]) -> Result<(), Refusal> {
-    check_size(octets)?;
-    let message = Message::read(octets).ok_or(Refusal::Format)?;
+    let message = read(octets)?;
     ensure(!message.has_tsig(), Refusal::Format)?;
     let are_names = names::is_name(fields.name) && names::is_name(fields.algorithm);
     ensure(are_names, Refusal::Name)?;
@@ -136,7 +151,7 @@ fn digest(
         &size(fields.other_data)?,
         fields.other_data,
     ];
-    lay(&pieces, buffer)
+    lay(&pieces, buffer).ok_or(Refusal::Room)
 }
 
 /// RFC 1035 §4.1.1: ARCOUNT, of octets that are a message.

@@ -1,6 +1,6 @@
 //! Reading messages. 01 "Reading"; RFC 1035 §4, RFC 8945 §4.2, RFC 2930 §2.
 
-use crate::names::{self, Name};
+use crate::names::{self, Name, Place};
 
 // Types of records, and the class ANY.
 pub const KEY: u16 = 25;
@@ -55,11 +55,29 @@ impl<'a> Cursor<'a> {
         self.take(usize::from(size))
     }
 
-    /// A name that may be compressed; answers with its place.
-    fn name(&mut self) -> Option<usize> {
+    /// A name that may be compressed; answers with where it stands, or with
+    /// where it breaks a rule.
+    fn name(&mut self) -> Result<usize, Place> {
         let start = self.place;
         self.place = names::skip(self.octets, start)?;
-        Some(start)
+        Ok(start)
+    }
+
+    /// RFC 1035 §4.1.1: the six words of a header.
+    fn header(&mut self) -> Option<[u16; 6]> {
+        let octets: [u8; 12] = self.array()?;
+        let (words, _) = octets.as_chunks::<2>();
+        Some(std::array::from_fn(|i| u16::from_be_bytes(words[i])))
+    }
+
+    /// RFC 1035 §4.1.2: type and class, behind a question's name.
+    fn after_question_name(&mut self) -> Option<(u16, u16)> {
+        Some((self.u16()?, self.u16()?))
+    }
+
+    /// RFC 1035 §4.1.3: type, class, TTL and data, behind an owner name.
+    fn after_owner(&mut self) -> Option<(u16, u16, u32, &'a [u8])> {
+        Some((self.u16()?, self.u16()?, self.u32()?, self.sized()?))
     }
 
     /// A name that may not be compressed.
@@ -99,14 +117,13 @@ pub struct Record<'a> {
 }
 
 impl<'a> Record<'a> {
-    /// RFC 1035 §4.1.3.
-    fn read(cursor: &mut Cursor<'a>, index: usize, section: Section) -> Option<Record<'a>> {
+    /// RFC 1035 §4.1.3; or the place where it breaks a rule.
+    fn read(cursor: &mut Cursor<'a>, index: usize, section: Section) -> Result<Record<'a>, Place> {
         let message = cursor.octets;
         let owner = cursor.name()?;
         let start = cursor.place;
-        let (kind, class, ttl) = (cursor.u16()?, cursor.u16()?, cursor.u32()?);
-        let data = cursor.sized()?;
-        Some(Record {
+        let (kind, class, ttl, data) = cursor.after_owner().ok_or(message.len())?;
+        Ok(Record {
             message,
             owner,
             index,
@@ -121,7 +138,7 @@ impl<'a> Record<'a> {
 
     /// The owner name, written out.
     pub fn owner(&self) -> Option<Name> {
-        names::expand(self.message, self.owner)
+        names::expand(self.message, self.owner).ok()
     }
 }
 
@@ -167,13 +184,17 @@ pub struct BadTsig;
 
 impl<'a> Message<'a> {
     /// 01 "Reading": header, then questions, then records, as counted, and
-    /// nothing left over. `None` is FORMAT.
-    pub fn read(octets: &'a [u8]) -> Option<Message<'a>> {
+    /// nothing left over. Else FORMAT with CR 6's place: the message's length
+    /// where an octet is missing, else the first octet that breaks a rule or is
+    /// left over.
+    pub fn read(octets: &'a [u8]) -> Result<Message<'a>, Place> {
         let mut cursor = Cursor::new(octets);
+        let header = cursor.header().ok_or(octets.len())?;
+        let [id, flags, question_count, answer, authority, additional] = header;
         let mut message = Message {
-            id: cursor.u16()?,
-            flags: cursor.u16()?,
-            question_count: cursor.u16()?,
+            id,
+            flags,
+            question_count,
             questions: &[],
             asked: None,
             record_count: 0,
@@ -182,23 +203,26 @@ impl<'a> Message<'a> {
             tkey_answers: Found::None,
             keys: Found::None,
         };
-        let [answer, authority, additional] = [cursor.u16()?, cursor.u16()?, cursor.u16()?];
         message.read_questions(&mut cursor)?;
         message.read_section(&mut cursor, answer, Section::Answer)?;
         message.read_section(&mut cursor, authority, Section::Authority)?;
         message.read_section(&mut cursor, additional, Section::Additional)?;
-        cursor.at_end().then_some(message)
+        match cursor.at_end() {
+            true => Ok(message),
+            false => Err(cursor.place),
+        }
     }
 
     /// RFC 1035 §4.1.2.
-    fn read_questions(&mut self, cursor: &mut Cursor<'a>) -> Option<()> {
+    fn read_questions(&mut self, cursor: &mut Cursor<'a>) -> Result<(), Place> {
         let start = cursor.place;
         for _ in 0..self.question_count {
             cursor.name()?;
-            self.asked = Some((cursor.u16()?, cursor.u16()?));
+            let asked = cursor.after_question_name().ok_or(cursor.octets.len())?;
+            self.asked = Some(asked);
         }
         self.questions = &cursor.octets[start..cursor.place];
-        Some(())
+        Ok(())
     }
 
     /// Reads the records of a section and keeps those of interest.
@@ -207,7 +231,7 @@ impl<'a> Message<'a> {
         cursor: &mut Cursor<'a>,
         count: u16,
         section: Section,
-    ) -> Option<()> {
+    ) -> Result<(), Place> {
         for _ in 0..count {
             let record = Record::read(cursor, self.record_count, section)?;
             self.record_count += 1;
@@ -223,7 +247,7 @@ impl<'a> Message<'a> {
                 _ => (),
             }
         }
-        Some(())
+        Ok(())
     }
 
     /// 01, number 7: the QR bit.
@@ -406,8 +430,7 @@ pub fn is_key_record(octets: &[u8]) -> bool {
     let mut cursor = Cursor::new(octets);
     let mut read = || {
         cursor.plain_name()?;
-        let kind = cursor.u16()?;
-        let (_class, _ttl, _data) = (cursor.u16()?, cursor.u32()?, cursor.sized()?);
+        let (kind, _class, _ttl, _data) = cursor.after_owner()?;
         Some(kind == KEY && cursor.at_end())
     };
     read() == Some(true)

@@ -97,7 +97,7 @@ fn in_turns(mut ours: impl FnMut() -> i64, mut theirs: impl FnMut() -> i64) -> T
 }
 
 /// What is asked of an answer, and of whether the table changed.
-type Expected = fn(Result<Answer, u64>, bool) -> bool;
+type Expected = fn(Result<Answer, Refusal>, bool) -> bool;
 
 /// A call on `start`, which is restored before each turn where it changes. The
 /// sides agree, and what they do is as expected.
@@ -105,9 +105,7 @@ fn measure(start: &Table, call: Call, expected: Expected) -> Times {
     let their_start = table_of(start);
     let (mut ours, mut theirs) = (start.clone(), their_start.clone());
     let (mut our_reply, mut their_reply) = (vec![0; 65_535], vec![0; 65_535]);
-    let answer = call
-        .ours(&mut ours, &mut our_reply)
-        .map_err(Refusal::number);
+    let answer = call.ours(&mut ours, &mut our_reply);
     let their_answer = as_ours(call.theirs(&mut theirs, &mut their_reply));
     assert_eq!(answer, their_answer);
     assert_eq!(our_reply, their_reply);
@@ -231,15 +229,15 @@ fn enrolled(suffixes: impl Iterator<Item = Vec<u8>>) -> Table {
     table
 }
 
-fn is_signed(answer: Result<Answer, u64>, changes: bool) -> bool {
+fn is_signed(answer: Result<Answer, Refusal>, changes: bool) -> bool {
     !changes && answer.is_ok_and(|answer| answer.serial == 1 && answer.length == 0)
 }
 
-fn is_granted(answer: Result<Answer, u64>, changes: bool) -> bool {
+fn is_granted(answer: Result<Answer, Refusal>, changes: bool) -> bool {
     changes && answer.is_ok_and(|answer| answer.serial == 1 && answer.length > 0)
 }
 
-fn is_enrolled(answer: Result<Answer, u64>, changes: bool) -> bool {
+fn is_enrolled(answer: Result<Answer, Refusal>, changes: bool) -> bool {
     changes && answer.is_ok_and(|answer| answer.pair == 64)
 }
 
@@ -281,7 +279,7 @@ fn measure_calls(offices: Differ) {
     });
     let what = "of these, the table rules: a look refused with SIZE";
     show(what, &table, Call::Look(&[]), |answer, _| {
-        answer == Err(Refusal::Size.number())
+        answer == Err(Refusal::Size)
     });
     let what = "and of a look, the search and the key's name";
     print_row(what, searching(&table, &update));

@@ -21,7 +21,7 @@ pub type Words = [u64; TABLE_WORDS];
 /// A table's suffixes, 128 octets for each place.
 pub type Octets = [u8; TABLE_OCTETS];
 
-type Told = [u64; 6];
+type Told = [u64; 7];
 
 // A reference to an array is what C calls a pointer to its first word.
 extern "C" {
@@ -79,11 +79,11 @@ extern "C" {
     ) -> u64;
 }
 
-/// Why a call was refused, `as u64` its number in document 01.
+/// Why a call was refused.
 #[derive(Clone, Copy, Debug, PartialEq, Eq, Hash)]
 pub enum Refusal {
     /// The words and octets hold no table, or one that breaks a table rule.
-    Table = 1,
+    Table,
     /// The time is 2^48 - 2^31 or more.
     Time,
     /// The time is before the table's clock.
@@ -93,7 +93,12 @@ pub enum Refusal {
     /// The offered key data is over 1024 octets.
     Offer,
     /// The message breaks a reading rule.
-    Format,
+    Format {
+        /// The octet, from 0, where reading first failed: the one that breaks
+        /// a rule, the first left over, or the message's length where one is
+        /// missing.
+        place: usize,
+    },
     /// The message's QR bit is 1.
     NotQuery,
     /// The reply is longer than the lent buffer or than 65535 octets.
@@ -116,33 +121,50 @@ pub enum Refusal {
 
 impl Refusal {
     /// In the order of their numbers, from 1.
-    const ALL: [Refusal; 15] = [
-        Refusal::Table,
-        Refusal::Time,
-        Refusal::Clock,
-        Refusal::Size,
-        Refusal::Offer,
-        Refusal::Format,
-        Refusal::NotQuery,
-        Refusal::Room,
-        Refusal::NoPair,
-        Refusal::NoKey,
-        Refusal::Spent,
-        Refusal::Name,
-        Refusal::Term,
-        Refusal::Twin,
-        Refusal::Full,
-    ];
+    fn all(place: usize) -> [Refusal; 15] {
+        [
+            Refusal::Table,
+            Refusal::Time,
+            Refusal::Clock,
+            Refusal::Size,
+            Refusal::Offer,
+            Refusal::Format { place },
+            Refusal::NotQuery,
+            Refusal::Room,
+            Refusal::NoPair,
+            Refusal::NoKey,
+            Refusal::Spent,
+            Refusal::Name,
+            Refusal::Term,
+            Refusal::Twin,
+            Refusal::Full,
+        ]
+    }
 
     /// Its number in document 01, 1 to 15.
     pub fn number(self) -> u64 {
-        self as u64
+        let before = Refusal::all(self.place())
+            .into_iter()
+            .take_while(|refusal| *refusal != self);
+        1 + before.count() as u64
+    }
+
+    /// Where reading the message failed, of `Format`; else 0.
+    pub fn place(self) -> usize {
+        match self {
+            Refusal::Format { place } => place,
+            _ => 0,
+        }
     }
 }
 
 impl fmt::Display for Refusal {
     fn fmt(&self, f: &mut fmt::Formatter<'_>) -> fmt::Result {
-        write!(f, "refused with {} ({self:?})", self.number())
+        let number = self.number();
+        match self {
+            Refusal::Format { place } => write!(f, "refused with {number} (Format, at {place})"),
+            _ => write!(f, "refused with {number} ({self:?})"),
+        }
     }
 }
 
@@ -342,10 +364,10 @@ impl Table {
 
 /// What a call returned and the words of its answer, whose first is the same.
 fn told(number: u64, answer: Told) -> Result<Answer, Refusal> {
-    let [same_number, length, error, skew, pair, serial] = answer;
+    let [same_number, length, error, skew, pair, serial, place] = answer;
     debug_assert_eq!(number, same_number);
     if number != 0 {
-        return Err(Refusal::ALL[number as usize - 1]);
+        return Err(Refusal::all(place as usize)[number as usize - 1]);
     }
     Ok(Answer {
         length: length as usize,

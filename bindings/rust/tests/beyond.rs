@@ -243,10 +243,10 @@ fn any_words_are_judged() {
             }
         });
         let expected = match table.view() {
-            None => Err(1),
+            None => Err(Refusal::Table),
             Some(view) => as_ours(second::look(&theirs(&view), &message)),
         };
-        assert_eq!(table.look(&message).map_err(Refusal::number), expected);
+        assert_eq!(table.look(&message), expected);
         match (table.view(), expected) {
             (None, _) => broken += 1,
             (_, Err(_)) => shown += 1,
@@ -311,7 +311,7 @@ fn a_waiting_key_is_deleted_alone() {
     let (mut reply, mut their_reply) = ([FILL; 512], [FILL; 512]);
     let answer = table.message(1200, true, &message, &[], &mut reply);
     let expected = second::message(&mut theirs, 1200, true, &message, &[], &mut their_reply);
-    assert_eq!(answer.map_err(Refusal::number), as_ours(expected));
+    assert_eq!(answer, as_ours(expected));
     assert_eq!(reply, their_reply);
     let answer = answer.expect("done");
     assert!(answer.length > 0);
@@ -364,8 +364,13 @@ fn a_refusal_leaves_all_but_the_clock() {
     refused(Refusal::Offer, 1001, |t, r| {
         t.message(1001, true, query, offer, r)
     });
-    refused(Refusal::Format, 1001, |t, r| {
-        t.message(1001, true, &query[..12], &[], r)
+    let (missing, left_over) = (&query[..12], &[&query[..], &[0]].concat());
+    let format = |place: usize| Refusal::Format { place };
+    refused(format(12), 1001, |t, r| {
+        t.message(1001, true, missing, &[], r)
+    });
+    refused(format(query.len()), 1001, |t, r| {
+        t.message(1001, true, left_over, &[], r)
     });
     refused(Refusal::NotQuery, 1001, |t, r| {
         t.message(1001, true, response, &[], r)
@@ -394,8 +399,19 @@ fn a_refusal_leaves_all_but_the_clock() {
         t.enrol(1001, &name("A.Example."), 600, 400, 256)
     });
     refused(Refusal::Size, 1000, |t, _| t.look(&[]));
-    refused(Refusal::Format, 1000, |t, _| t.look(&query[..12]));
+    refused(format(12), 1000, |t, _| t.look(missing));
+    refused(format(query.len()), 1000, |t, _| t.look(left_over));
     refused(Refusal::NotQuery, 1000, |t, _| t.look(response));
+}
+
+#[test]
+fn a_refusal_has_its_number_and_its_place() {
+    let format = Refusal::Format { place: 12 };
+    assert_eq!((format.number(), format.place()), (6, 12));
+    assert_eq!(format.to_string(), "refused with 6 (Format, at 12)");
+    assert_eq!((Refusal::Table.number(), Refusal::Table.place()), (1, 0));
+    assert_eq!((Refusal::Full.number(), Refusal::Full.place()), (15, 0));
+    assert_eq!(Refusal::Full.to_string(), "refused with 15 (Full)");
 }
 
 #[test]
@@ -528,7 +544,7 @@ fn a_new_table_over_junk() {
             let suffix = name(&office(pair));
             let answer = table.enrol(1000, &suffix, 600, 400, 384);
             let expected = second::enrol(&mut theirs, 1000, &suffix, 600, 400, 384);
-            assert_eq!(answer.map_err(Refusal::number), as_ours(expected));
+            assert_eq!(answer, as_ours(expected));
         }
         assert_eq!(table_of(&table), theirs);
     }

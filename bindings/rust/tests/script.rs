@@ -82,6 +82,7 @@ impl Runner {
 
     fn printed(&self, result: Result<Answer, Refusal>) -> String {
         let number = result.err().map_or(0, Refusal::number);
+        let place = result.err().map_or(0, Refusal::place);
         let answer = result.unwrap_or_default();
         let reply = match answer.length {
             0 => "-".to_string(),
@@ -89,7 +90,7 @@ impl Runner {
         };
         let (length, error, skew) = (answer.length, answer.error, answer.skew);
         let (pair, serial) = (answer.pair, answer.serial);
-        format!("{number} {length} {error} {skew} {pair} {serial} {reply}\n")
+        format!("{number} {length} {error} {skew} {pair} {serial} {reply} {place}\n")
     }
 }
 

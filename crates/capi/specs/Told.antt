@@ -16,9 +16,9 @@ unfoldable pub twosComplement : ℤ → ℕ
 twosComplement (pos n) = n
 twosComplement (negsuc n) = 2 ^ 64 - suc n
 
--- An answer in six words.
+-- An answer in seven words.
 unfoldable pub answerWords : Answer → List ℕ
-answerWords a = a .number ∷ a .length ∷ a .error ∷ twosComplement (a .skew) ∷ a .pair ∷ a .serial ∷ []
+answerWords a = a .number ∷ a .length ∷ a .error ∷ twosComplement (a .skew) ∷ a .pair ∷ a .serial ∷ a .place ∷ []
 
 -- The answer a is told: its words are written, and its number is returned.
 pub record Told (a : Answer) (words : List ℕ) (r : ℕ) : Type 0 where

@@ -1,5 +1,5 @@
 // The public calls on a lent table, for C and Rust to link: numbers, lent arrays and lent slices alone. include/luffcringle.h declares them. Each takes every
-// value of every argument, writes its answer in six words (number, length, TSIG error, skew, pair, serial) and returns the number. The table lies in 1091 words
+// value of every argument, writes its answer in seven words (number, length, TSIG error, skew, pair, serial, place) and returns the number. The table lies in 1091 words
 // and 8192 octets (store/specs/Layout.antt); where they hold none, every call but a new table is TABLE (1). TABLE changes nothing of what is lent; every other
 // refusal sets at most the clock.
 use model::Answer;
@@ -24,11 +24,11 @@ fn skew_word(skew: i64) -> u64
     0xffff_ffff_ffff_ffff - (-1 - skew) as u64
 }
 
-fn tell(answer: &mut [u64; 6], a: Answer) -> u64
+fn tell(answer: &mut [u64; 7], a: Answer) -> u64
     ensures { λ r. ⌜ Told a (now (answer .exit)) r ⌝ }
 {
     let skew = skew_word(a.skew);
-    *answer = [a.number, a.length, a.error, skew, a.pair, a.serial];
+    *answer = [a.number, a.length, a.error, skew, a.pair, a.serial, a.place];
     a.number
 }
 
@@ -40,7 +40,7 @@ pub extern "C" fn luffcringle_new_table(
     words: &mut [u64; 1091],
     suffixes: &[u8; 8192],
     time: u64,
-    answer: &mut [u64; 6],
+    answer: &mut [u64; 7],
 ) -> u64
     ensures { λ r. ⌜ NewLent time (now (words .entry)) (now (suffixes .entry)) (now (words .exit)) (now (answer .exit)) r ⌝ }
 {
@@ -58,7 +58,7 @@ pub extern "C" fn luffcringle_enrol(
     lifetime: u64,
     fresh: u64,
     algorithm: u64,
-    answer: &mut [u64; 6],
+    answer: &mut [u64; 7],
 ) -> u64
     ensures { λ r. ⌜ Lent (λ t. enrolOn t time (now (suffix .entry)) lifetime fresh algorithm) (now (words .entry)) (now (suffixes .entry)) (now (words .exit)) (now (suffixes .exit)) (now (answer .exit)) r ⌝ }
 {
@@ -82,7 +82,7 @@ pub extern "C" fn luffcringle_issue(
     time: u64,
     pair: u64,
     algorithm: u64,
-    answer: &mut [u64; 6],
+    answer: &mut [u64; 7],
 ) -> u64
     ensures { λ r. ⌜ Lent (λ t. issueOn t time pair algorithm) (now (words .entry)) (now (suffixes .entry)) (now (words .exit)) (now (suffixes .entry)) (now (answer .exit)) r × Own (pair - 1) (now (words .entry)) (now (words .exit)) ⌝ }
 {
@@ -97,7 +97,7 @@ pub extern "C" fn luffcringle_revoke(
     suffixes: &[u8; 8192],
     time: u64,
     pair: u64,
-    answer: &mut [u64; 6],
+    answer: &mut [u64; 7],
 ) -> u64
     ensures { λ r. ⌜ Lent (λ t. revokeOn t time pair) (now (words .entry)) (now (suffixes .entry)) (now (words .exit)) (now (suffixes .entry)) (now (answer .exit)) r × Own (pair - 1) (now (words .entry)) (now (words .exit)) ⌝ }
 {
@@ -111,7 +111,7 @@ pub extern "C" fn luffcringle_look(
     words: &[u64; 1091],
     suffixes: &[u8; 8192],
     message: &[u8],
-    answer: &mut [u64; 6],
+    answer: &mut [u64; 7],
 ) -> u64
     ensures { λ r. ⌜ Told (lookOn (tableOf (now (words .entry)) (now (suffixes .entry))) (now (message .entry)) .outcome .answer) (now (answer .exit)) r ⌝ }
 {
@@ -130,7 +130,7 @@ pub extern "C" fn luffcringle_message<'a>(
     message: &'a [u8],
     offer: &'a [u8],
     reply: &mut [u8],
-    answer: &mut [u64; 6],
+    answer: &mut [u64; 7],
 ) -> u64
     ensures { λ r. ⌜ MessageLent (λ t. messageOn t time good (now (offer .entry)) (length (now (reply .entry))) (now (message .entry)))
         (octetsOwner (namesOf (tableOf (now (words .entry)) (now (suffixes .entry)))) (now (message .entry)))

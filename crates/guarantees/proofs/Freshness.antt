@@ -26,7 +26,7 @@ use Rattle.model.specs.Pairs.{withKeys, made, renewedKeys, renewed, adoptedKeys
 use Rattle.model.specs.Tables.{Row, Table, noRow, rowAt, suffixAt, pairAt, withClock, withPair, namesOf, distinct, clockRule, tableRules}
 use Rattle.model.specs.Judging.{Holder, heldSuffix, heldPair, adoptedOf, waitingOf, judge, changed}
 use Rattle.model.specs.Replies.{granted, renewedReply, replyOf}
-use Rattle.model.specs.Calls.{TIME, SIZE, OFFER, NOTQUERY, ROOM, Result, refusal, unchanged, timeFits, emptyTable, newTable, sizeOk, offerOk, roomFor, replyTo, replied, timeOf, signedBy, octetsOwner, ownerOf, holderAt, served, called}
+use Rattle.model.specs.Calls.{refusalAt, TIME, SIZE, OFFER, NOTQUERY, ROOM, Result, refusal, unchanged, timeFits, emptyTable, newTable, sizeOk, offerOk, roomFor, replyTo, replied, timeOf, signedBy, octetsOwner, ownerOf, holderAt, served, called}
 use Rattle.model.specs.Runs.{Operation, enrol, call, operated, operatedAll, Has, nextOf, suffixBy, suffixOf, keyRaised, keyMade, listed, namesMade, NoneSame, Distinct}
 use Rattle.model.proofs.CallLaws.{passes-first, message-size, message-offer, message-response, message-room, message-done}
 use Rattle.guarantees.specs.Freshness.{after, madeBy, Ask, asks, Decides, Granted, AtOnce, Demand2}
@@ -225,7 +225,7 @@ held-is t i = refl
 module _ (t : Table) (q : Ask) (i : ℕ) (m : Message) (d : Decision) (x : Decides t q i m d) where
   -- not refused, as its number is 0
   not-refused : {A : Type 0} (u : Table) (n : ℕ) → called t (asks q) ≡ unchanged u (suc n) → A
-  unfolding unchanged refusal
+  unfolding unchanged refusal refusalAt
   not-refused u n e = let z : _≡_ {A = ℕ} 0 (suc n) = sym (x .finished) ∙ ap (λ (r : Result). r .outcome .answer .number) e in absurd (omega arith)
 
   abbrev now : ℕ

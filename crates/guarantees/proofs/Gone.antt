@@ -27,9 +27,9 @@ use Rattle.model.specs.Tkey.{contentsOf}
 use Rattle.model.specs.Pairs.{withKeys, made, revokedKey, issued, renewedKeys, renewed, adoptedKeys, adopted, deleted, withdrawnKeys, withdrawn}
 use Rattle.model.specs.Tables.{Row, Table, noRow, rowAt, suffixAt, pairAt, withClock, withPair, namesOf, rowNamed, isNone, distinct, tableRules}
 use Rattle.model.specs.Judging.{notAuth, badKey, Holder, heldPair, heldSuffix, heldNumber, keyIf, isNamed, isKey, adoptedOf, waitingOf, signerOf, Given, Judged, unknown, inTime, step3, decide, judgeRead, judge, changed}
-use Rattle.model.specs.Calls.{DONE, SIZE, OFFER, FORMAT, NOTQUERY, ROOM, SPENT, TERM, Result, Step, refusal, unchanged, refuses, leaves, emptyTable, newTable, gate, Call, issue, timeOf, numberOwner, sizeOk, offerOk, roomFor, replyTo, replied, answered, messageStep, ownerOf, stepOf, holderAt, servedBy, served, called}
+use Rattle.model.specs.Calls.{breaks, refusalAt, DONE, SIZE, OFFER, FORMAT, NOTQUERY, ROOM, SPENT, TERM, Result, Step, refusal, unchanged, refuses, leaves, emptyTable, newTable, gate, Call, issue, timeOf, numberOwner, sizeOk, offerOk, roomFor, replyTo, replied, answered, messageStep, ownerOf, stepOf, holderAt, servedBy, served, called}
 use Rattle.model.specs.Runs.{Operation, call, operated, operatedAll, Has, nextOf, keyMade}
-use Rattle.model.proofs.Tests.{left, right, and-false, differs, by-check, by-read}
+use Rattle.model.proofs.Tests.{left, right, and-false, differs, by-check, by-place}
 use Rattle.model.proofs.RuleFacts.{KeyOk, KeysOk, PairOk}
 use Rattle.model.proofs.NameLaws.{same-refl, same-sym, same-on, key-same}
 use Rattle.model.proofs.Rows.{at-member, set-has, none-member, all-distinct, row-ok, same-next}
@@ -244,7 +244,7 @@ unfolding messageStep answered replied changed leaves
 refused-stays h g room octets m end is rcode error e =
     by-check P (refuses h) SIZE refl (sizeOk octets) λ _.
     by-check P (refuses h) OFFER refl (offerOk (g .offer)) λ _.
-    by-read P (refuses h) FORMAT refl (readMessage octets) λ n last is-too.
+    by-place P (breaks h) (λ place. refl) (readMessage octets) λ n last is-too.
     by-check P (refuses h) NOTQUERY refl (not (n .response)) λ _.
     by-check P (refuses h) ROOM refl (roomFor room (replyTo h g n)) λ _.
     let q : n ≡ m = cc in
@@ -431,7 +431,7 @@ module _ (t : Table) (i : ℕ) (k : Key) (r : tableRules t ≡ true) where
 
     -- not refused, as its number is 0
     not-refused : {A : Type 0} (n : ℕ) → served clocked it ≡ unchanged clocked (suc n) → A
-    unfolding unchanged refusal DONE
+    unfolding unchanged refusal refusalAt DONE
     not-refused n q = let z : _≡_ {A = ℕ} 0 (suc n) = sym ends ∙ ap (λ (y : Result). y .outcome .answer .number) (begins ∙ q) in absurd (omega arith)
 
     issued-rows : (g : Algorithm) → ltb (pairAt clocked i .«next_serial») 0x1_0000_0000 ≡ true → algorithmNumbered algorithm ≡ Known g → called t it .table .rows ≡ set (t .rows) i (record { suffix = suffixAt t i; pair = issued was time g })

@@ -9,16 +9,20 @@ use lib.Dec.{leb, ltb, eqb}
 use lib.ListN.{length}
 use borrow.Author.Tests.{leb-true}
 use Rattle.model.specs.Names.{algorithmNumbered}
-use Rattle.model.specs.Messages.{readMessage}
+use Rattle.model.specs.Messages.{Message, readMessage}
+use Rattle.model.specs.Tsig.{Signature, unsigned, misplaced, wellPlaced, signature}
+use Rattle.model.specs.declared.Key.{Key}
+use Rattle.model.specs.declared.Answer.{Answer}
+use Rattle.model.specs.Octets.{put, Reading, stops, reads}
 use Rattle.model.specs.Tables.{Table, withClock, namesOf, rowNamed, isNone, suffixOk, termOk, tableRules}
-use Rattle.model.specs.Judging.{Holder, nobody, Given}
-use Rattle.model.specs.Checks.{check}
-use Rattle.model.specs.Calls.{DONE, TABLE, TIME, CLOCK, SIZE, OFFER, FORMAT, NOTQUERY, ROOM, NAME, TERM, TWIN, FULL, Result, refusal, done, unchanged, timeFits, timeGoesOn, timeGate, gate, clockAt, newTable, withRow, enrolled, enrolPassed, enrolOn, Step, refuses, leaves, sizeOk, offerOk, roomFor, replyTo, replied, answered, messageStep, Call, message, timeOf, ownerOf, stepOf, holderAt, servedBy, called, messageOn, bufferAfter}
+use Rattle.model.specs.Judging.{Holder, nobody, heldNumber, signerOf, Given}
+use Rattle.model.specs.Checks.{check, checkPlace}
+use Rattle.model.specs.Calls.{refusalAt, breaks, DONE, TABLE, TIME, CLOCK, SIZE, OFFER, FORMAT, NOTQUERY, ROOM, NAME, TERM, TWIN, FULL, Outcome, Result, refusal, done, unchanged, timeFits, timeGoesOn, timeGate, gate, clockAt, newTable, withRow, enrolled, enrolPassed, enrolOn, Step, refuses, leaves, sizeOk, found, lookedUp, lookStep, offerOk, roomFor, replyTo, replied, answered, messageStep, Call, look, message, timeOf, ownerOf, stepOf, holderAt, servedBy, called, lookOn, messageOn, bufferAfter}
 use Rattle.model.specs.Runs.{Operation, enrol, call, operated}
 use Rattle.model.proofs.Buffers.{put-length}
 use Rattle.model.proofs.CallLaws.{holderBy, refused-first, passes-first, leaves-it, buffer-refused}
 use Rattle.guarantees.specs.Refusals.{isOne, ownRefusals, firstRefusals, refusalsOf, operationTime, movedBy, Safe, Demand1}
-use Rattle.model.proofs.Tests.{left, by-check, by-read, by-known}
+use Rattle.model.proofs.Tests.{left, by-check, by-place, by-known}
 use Rattle.guarantees.proofs.OneCall.{clock-at, sets-clock, clockBy, served-is}
 use Rattle.guarantees.proofs.Moves.{Ends, refused, finished, ends}
 
@@ -50,6 +54,17 @@ gate-listed t (some τ) own n e =
     P : ℕ → Type 0
     P k = isOne k (DONE ∷ TABLE ∷ TIME ∷ CLOCK ∷ own) ≡ true
 
+not-format : (t : Table) (τ : Option ℕ) (n : ℕ) → gate t τ ≡ some n → ¬ (n ≡ FORMAT)
+unfolding gate TABLE TIME CLOCK FORMAT
+not-format t none n e = refused-by (λ k. ¬ (k ≡ 6)) TABLE (tableRules t) none (λ q. omega (arith, q)) (λ k q. absurd (Option·none-ne-some k q)) n e
+not-format t (some τ) n e =
+    refused-by P TABLE (tableRules t) (timeGate (some τ) (t .clock)) (λ q. omega (arith, q))
+    (λ k q. refused-by P TIME (timeFits τ) (check some CLOCK (timeGoesOn (t .clock) τ) none) (λ q. omega (arith, q))
+    (λ k q. refused-by P CLOCK (timeGoesOn (t .clock) τ) none (λ q. omega (arith, q)) (λ k q. absurd (Option·none-ne-some k q)) k q) k q) n e
+  where
+    P : ℕ → Type 0
+    P k = ¬ (k ≡ 6)
+
 -- ── Refused and done ────────────────────────────────────────────────────────────────────────────────────────────────
 
 same-clock : (t : Table) → withClock t (t .clock) ≡ t
@@ -66,15 +81,17 @@ module _ (t : Table) (time : Option ℕ) (own : List ℕ) where
   pub record SafeBy (r : Result) : Type 0 where
     pub listed-by : isOne (r .outcome .answer .number) (DONE ∷ firstRefusals time own) ≡ true
     pub moves-by : r .table .clock ≡ movedBy (gate t time) time (t .clock)
-    pub clean-by : ¬ (r .outcome .answer .number ≡ DONE) → r ≡ unchanged (withClock t (r .table .clock)) (r .outcome .answer .number)
+    pub clean-by : ¬ (r .outcome .answer .number ≡ DONE) → r ≡ record { table = withClock t (r .table .clock); outcome = refusalAt (r .outcome .answer .number) (r .outcome .answer .place) }
+    pub placed-by : ¬ (r .outcome .answer .number ≡ FORMAT) → r .outcome .answer .place ≡ 0
 
   -- refused at the gate
   refused-first-by : (n : ℕ) → gate t time ≡ some n → SafeBy (unchanged t n)
-  unfolding unchanged refusal
+  unfolding unchanged refusal refusalAt
   refused-first-by n e = record {
     listed-by = gate-listed t time own n e;
     moves-by = sym (ap (λ (g : Option ℕ). movedBy g time (t .clock)) e);
     clean-by = λ _. ap (λ (u : Table). unchanged u n) (sym (same-clock t));
+    placed-by = λ _. refl;
   }
 
   clock-then : gate t time ≡ none → clockAt t time .clock ≡ movedBy (gate t time) time (t .clock)
@@ -85,17 +102,18 @@ module _ (t : Table) (time : Option ℕ) (own : List ℕ) where
       by-time (some τ) = refl
 
   -- refused later
-  refused-later-by : (n : ℕ) → gate t time ≡ none → isOne n own ≡ true → SafeBy (unchanged (clockAt t time) n)
-  unfolding unchanged refusal
-  refused-later-by n e l = record {
+  refused-later-by : (n place : ℕ) → gate t time ≡ none → isOne n own ≡ true → (¬ (n ≡ FORMAT) → place ≡ 0) → SafeBy (record { table = clockAt t time; outcome = refusalAt n place })
+  unfolding refusalAt
+  refused-later-by n place e l p = record {
     listed-by = own-listed n time own l;
     moves-by = clock-then e;
-    clean-by = λ _. ap (λ (u : Table). unchanged u n) (sym (clock-only t time));
+    clean-by = λ _. ap {B = Result} (λ (u : Table). record { table = u; outcome = refusalAt n place }) (sym (clock-only t time));
+    placed-by = p;
   }
 
-  done-by : (r : Result) → r .outcome .answer .number ≡ 0 → r .table .clock ≡ movedBy (gate t time) time (t .clock) → SafeBy r
+  done-by : (r : Result) → r .outcome .answer .number ≡ 0 → r .outcome .answer .place ≡ 0 → r .table .clock ≡ movedBy (gate t time) time (t .clock) → SafeBy r
   unfolding DONE
-  done-by r e k = record { listed-by = ap (λ (n : ℕ). isOne n (DONE ∷ firstRefusals time own)) e; moves-by = k; clean-by = λ n. absurd (n e) }
+  done-by r e z k = record { listed-by = ap (λ (n : ℕ). isOne n (DONE ∷ firstRefusals time own)) e; moves-by = k; clean-by = λ n. absurd (n e); placed-by = λ _. z }
 
 -- ── The calls ───────────────────────────────────────────────────────────────────────────────────────────────────────
 
@@ -105,12 +123,12 @@ module _ (t : Table) (c : Call) where
 
   passed-by : gate t (timeOf c) ≡ none → (o : Option ℕ) → ownerOf (namesOf (clockAt t (timeOf c))) c ≡ o → Ends (holderBy (clockAt t (timeOf c)) o) c (stepOf (holderBy (clockAt t (timeOf c)) o) c) → By (called t c)
   unfolding unchanged
-  passed-by e o w (refused n l q) = subst By (sym (passes-first t c e ∙ leaves-it (clockAt t (timeOf c)) c o (refusal n) w q)) (refused-later-by t (timeOf c) (ownRefusals c) n e l)
-  passed-by e o w (finished z m) = done-by t (timeOf c) (ownRefusals c) (called t c) (number o w z) (sets-clock t c e ∙ sym (clock-at t (timeOf c)) ∙ clock-then t (timeOf c) (ownRefusals c) e)
+  passed-by e o w (refused n place l p q) = subst By (sym (passes-first t c e ∙ leaves-it (clockAt t (timeOf c)) c o (refusalAt n place) w q)) (refused-later-by t (timeOf c) (ownRefusals c) n place e l p)
+  passed-by e o w (finished z p m) = done-by t (timeOf c) (ownRefusals c) (called t c) (answers (λ (a : Answer). a .number) o w z) (answers (λ (a : Answer). a .place) o w p) (sets-clock t c e ∙ sym (clock-at t (timeOf c)) ∙ clock-then t (timeOf c) (ownRefusals c) e)
     where
-      number : (o : Option ℕ) → ownerOf (namesOf (clockAt t (timeOf c))) c ≡ o → stepOf (holderBy (clockAt t (timeOf c)) o) c .outcome .answer .number ≡ 0 → called t c .outcome .answer .number ≡ 0
-      number none w z = ap (λ (r : Result). r .outcome .answer .number) (passes-first t c e ∙ served-is (clockAt t (timeOf c)) c ∙ ap (servedBy (clockAt t (timeOf c)) c) w) ∙ z
-      number (some i) w z = ap (λ (r : Result). r .outcome .answer .number) (passes-first t c e ∙ served-is (clockAt t (timeOf c)) c ∙ ap (servedBy (clockAt t (timeOf c)) c) w) ∙ z
+      answers : (f : Answer → ℕ) (o : Option ℕ) → ownerOf (namesOf (clockAt t (timeOf c))) c ≡ o → f (stepOf (holderBy (clockAt t (timeOf c)) o) c .outcome .answer) ≡ 0 → f (called t c .outcome .answer) ≡ 0
+      answers f none w z = ap (λ (r : Result). f (r .outcome .answer)) (passes-first t c e ∙ served-is (clockAt t (timeOf c)) c ∙ ap (servedBy (clockAt t (timeOf c)) c) w) ∙ z
+      answers f (some i) w z = ap (λ (r : Result). f (r .outcome .answer)) (passes-first t c e ∙ served-is (clockAt t (timeOf c)) c ∙ ap (servedBy (clockAt t (timeOf c)) c) w) ∙ z
 
   called-safe : By (called t c)
   called-safe = go (gate t (timeOf c)) refl
@@ -130,20 +148,20 @@ module _ (t : Table) (time : ℕ) (suffix : List ℕ) (lifetime fresh algorithm 
   Enrols r = SafeBy t (some time) enrolRefusals r
 
   enrolled-safe : gate t (some time) ≡ none → Enrols (enrolled (withClock t time) suffix lifetime fresh algorithm)
-  unfolding enrolled withRow done DONE NAME TERM TWIN FULL
+  unfolding enrolled unchanged refusal withRow done DONE NAME TERM TWIN FULL
   enrolled-safe e =
       by-check Enrols no NAME (refuse NAME refl) (suffixOk suffix) λ _.
       by-check Enrols no TERM (refuse TERM refl) (termOk lifetime fresh) λ _.
       by-known Enrols no TERM (refuse TERM refl) (algorithmNumbered algorithm) λ g _.
       by-check Enrols no TWIN (refuse TWIN refl) (isNone (rowNamed (namesOf (withClock t time)) suffix)) λ _.
       by-check Enrols no FULL (refuse FULL refl) (ltb (length (withClock t time .rows)) 64) λ _.
-      done-by t (some time) enrolRefusals _ refl (clock-then t (some time) enrolRefusals e)
+      done-by t (some time) enrolRefusals _ refl refl (clock-then t (some time) enrolRefusals e)
     where
       no : ℕ → Result
       no n = unchanged (withClock t time) n
 
       refuse : (n : ℕ) → isOne n enrolRefusals ≡ true → Enrols (no n)
-      refuse n l = refused-later-by t (some time) enrolRefusals n e l
+      refuse n l = refused-later-by t (some time) enrolRefusals n 0 e l (λ _. refl)
 
   enrol-safe : Enrols (enrolOn t time suffix lifetime fresh algorithm)
   unfolding enrolOn
@@ -156,8 +174,8 @@ module _ (t : Table) (time : ℕ) (suffix : List ℕ) (lifetime fresh algorithm 
 operation-safe : (t : Table) (o : Operation) → Safe t o
 unfolding operated refusalsOf operationTime
 operation-safe t (enrol time suffix lifetime fresh algorithm) =
-    let s = enrol-safe t time suffix lifetime fresh algorithm in record { listed = s .listed-by; clock-moves = s .moves-by; refused-clean = s .clean-by }
-operation-safe t (call c) = let s = called-safe t c in record { listed = s .listed-by; clock-moves = s .moves-by; refused-clean = s .clean-by }
+    let s = enrol-safe t time suffix lifetime fresh algorithm in record { listed = s .listed-by; clock-moves = s .moves-by; refused-clean = s .clean-by; placed = s .placed-by }
+operation-safe t (call c) = let s = called-safe t c in record { listed = s .listed-by; clock-moves = s .moves-by; refused-clean = s .clean-by; placed = s .placed-by }
 
 -- ── The buffer ──────────────────────────────────────────────────────────────────────────────────────────────────────
 
@@ -165,11 +183,11 @@ abbrev Fits : ℕ → Step → Type 0
 Fits room s = length (s .outcome .reply) ≤ room
 
 step-fits : (h : Holder) (g : Given) (room : ℕ) (octets : List ℕ) → Fits room (messageStep h g room octets)
-unfolding messageStep answered replied roomFor leaves refusal
+unfolding messageStep answered replied roomFor leaves refusal refusalAt
 step-fits h g room octets =
     by-check F (refuses h) SIZE (none-fits SIZE) (sizeOk octets) λ _.
     by-check F (refuses h) OFFER (none-fits OFFER) (offerOk (g .offer)) λ _.
-    by-read F (refuses h) FORMAT (none-fits FORMAT) (readMessage octets) λ m _ _.
+    by-place F (breaks h) (λ place. omega arith) (readMessage octets) λ m _ _.
     by-check F (refuses h) NOTQUERY (none-fits NOTQUERY) (not (m .response)) λ _.
     by-check F (refuses h) ROOM (none-fits ROOM) (leb (length (replyTo h g m)) room && leb (length (replyTo h g m)) 65535) λ e.
     leb-true _ _ (left (leb (length (replyTo h g m)) room) (leb (length (replyTo h g m)) 65535) e)
@@ -181,7 +199,7 @@ step-fits h g room octets =
     none-fits n = omega arith
 
 message-fits : (t : Table) (time : ℕ) (good : Bool) (offer : List ℕ) (room : ℕ) (octets : List ℕ) → length (called t (message time good offer room octets) .outcome .reply) ≤ room
-unfolding unchanged refusal stepOf timeOf
+unfolding unchanged refusal refusalAt stepOf timeOf
 message-fits t time good offer room octets = go (gate t (some time)) refl
   where
     it : Call
@@ -201,17 +219,88 @@ message-fits t time good offer room octets = go (gate t (some time)) refl
     go (some n) e = subst F (sym (refused-first t it n e)) (omega arith)
     go none e = subst F (sym (passes-first t it e ∙ served-is at it)) (served-fits (ownerOf (namesOf at) it))
 
+no-reply : (t : Table) (n place : ℕ) (b : List ℕ) → bufferAfter (record { table = t; outcome = refusalAt n place }) b ≡ b
+unfolding bufferAfter refusalAt put
+no-reply t n place b = refl
+
 untouched : (t : Table) (c : Call) (buffer : List ℕ) → ¬ (called t c .outcome .answer .number ≡ DONE) → bufferAfter (called t c) buffer ≡ buffer
 untouched t c buffer n =
     let e = called-safe t c .clean-by n in
-    ap (λ (r : Result). bufferAfter r buffer) e ∙ buffer-refused _ _ buffer
+    ap (λ (r : Result). bufferAfter r buffer) e ∙ no-reply _ _ _ buffer
+
+-- ── The place ───────────────────────────────────────────────────────────────────────────────────────────────────────
+
+module _ (octets : List ℕ) where
+  abbrev Placed : Outcome → Type 0
+  Placed o = o .answer .number ≡ FORMAT → readMessage octets ≡ stops (o .answer .place)
+
+  abbrev P : Step → Type 0
+  P s = Placed (s .outcome)
+
+  -- a message that reads, and one that does not
+  reading-placed : (h : Holder) (next : Message → Step) → ((m : Message) → P (next m)) → (r : Reading Message) → readMessage octets ≡ r → P (checkPlace (breaks h) r next)
+  unfolding leaves refusalAt
+  reading-placed h next f (stops place) e = λ _. e
+  reading-placed h next f (reads m end) e = f m
+
+  answered-placed : (h : Holder) (g : Given) (room : ℕ) (m : Message) → P (answered h g room m)
+  unfolding answered leaves refusal refusalAt replied DONE FORMAT NOTQUERY ROOM
+  answered-placed h g room m =
+      by-check P (refuses h) NOTQUERY (λ e. absurd (omega (arith, e))) (not (m .response)) λ _.
+      by-check P (refuses h) ROOM (λ e. absurd (omega (arith, e))) (roomFor room (replyTo h g m)) λ _ e.
+      absurd (omega (arith, e))
+
+  message-placed : (h : Holder) (g : Given) (room : ℕ) → P (messageStep h g room octets)
+  unfolding messageStep leaves refusal refusalAt SIZE OFFER FORMAT
+  message-placed h g room =
+      by-check P (refuses h) SIZE (λ e. absurd (omega (arith, e))) (sizeOk octets) λ _.
+      by-check P (refuses h) OFFER (λ e. absurd (omega (arith, e))) (offerOk (g .offer)) λ _.
+      reading-placed h (answered h g room) (answered-placed h g room) (readMessage octets) refl
+
+  found-placed : (n : ℕ) (k : Option Key) → Placed (found n k)
+  unfolding done DONE FORMAT
+  found-placed n none = λ e. absurd (omega (arith, e))
+  found-placed n (some k) = λ e. absurd (omega (arith, e))
+
+  looked-placed : (h : Holder) (s : Signature) → Placed (lookedUp h s)
+  unfolding done DONE FORMAT
+  looked-placed h unsigned = λ e. absurd (omega (arith, e))
+  looked-placed h misplaced = λ e. absurd (omega (arith, e))
+  looked-placed h (wellPlaced s) = found-placed (heldNumber h) (signerOf h s)
+
+  look-placed : (h : Holder) → P (lookStep h octets)
+  unfolding lookStep leaves refusal refusalAt SIZE FORMAT NOTQUERY
+  look-placed h =
+      by-check P (refuses h) SIZE (λ e. absurd (omega (arith, e))) (sizeOk octets) λ _.
+      reading-placed h _ (λ m. by-check P (refuses h) NOTQUERY (λ e. absurd (omega (arith, e))) (not (m .response)) λ _. looked-placed h (signature (m .records))) (readMessage octets) refl
+
+  -- the gate gives no FORMAT
+  call-placed : (t : Table) (c : Call) → ((h : Holder) → P (stepOf h c)) → Placed (called t c .outcome)
+  unfolding unchanged refusal refusalAt FORMAT
+  call-placed t c f = go (gate t (timeOf c)) refl
+    where
+      F : Result → Type 0
+      F r = Placed (r .outcome)
+
+      at : Table
+      at = clockAt t (timeOf c)
+
+      served-placed : (o : Option ℕ) → F (servedBy at c o)
+      served-placed none = f nobody
+      served-placed (some i) = f (holderAt at i)
+
+      go : (g : Option ℕ) → gate t (timeOf c) ≡ g → F (called t c)
+      go (some n) e = subst F (sym (refused-first t c n e)) (λ q. absurd (not-format t (timeOf c) n e q))
+      go none e = subst F (sym (passes-first t c e ∙ served-is at c)) (served-placed (ownerOf (namesOf at) c))
 
 pub demand1 : Demand1
-unfolding newTable messageOn bufferAfter
+unfolding newTable messageOn lookOn stepOf bufferAfter
 demand1 = record {
   every-call = operation-safe;
   new-done = λ t time e. rw e refl;
   new-refused = λ t time e. rw e refl;
   buffer-length = λ t time good offer octets buffer. put-length _ buffer (message-fits t time good offer (length buffer) octets);
   buffer-untouched = λ t time good offer octets buffer n. untouched t (message time good offer (length buffer) octets) buffer n;
+  message-place = λ t time good offer octets room. call-placed octets t (message time good offer room octets) (λ h. message-placed octets h _ room);
+  look-place = λ t octets. call-placed octets t (look octets) (look-placed octets);
 }

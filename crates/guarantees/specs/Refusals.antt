@@ -7,8 +7,10 @@ use mathlib.Core.List.{List, [], _∷_}
 use Prim.Native.Nat.{ℕ}
 use lib.Dec.{eqb}
 use lib.ListN.{length}
+use Rattle.model.specs.Octets.{stops}
+use Rattle.model.specs.Messages.{readMessage}
 use Rattle.model.specs.Tables.{Table, withClock}
-use Rattle.model.specs.Calls.{DONE, TABLE, TIME, CLOCK, SIZE, OFFER, FORMAT, NOTQUERY, ROOM, NOPAIR, NOKEY, SPENT, NAME, TERM, TWIN, FULL, done, unchanged, gate, emptyTable, newTable, timeFits, Call, issue, revoke, look, message, timeOf, messageOn, bufferAfter}
+use Rattle.model.specs.Calls.{DONE, TABLE, TIME, CLOCK, SIZE, OFFER, FORMAT, NOTQUERY, ROOM, NOPAIR, NOKEY, SPENT, NAME, TERM, TWIN, FULL, refusalAt, done, unchanged, gate, emptyTable, newTable, timeFits, Call, issue, revoke, look, message, timeOf, lookOn, messageOn, bufferAfter}
 use Rattle.model.specs.Runs.{Operation, enrol, call, operated}
 
 abbrev pub isOne : ℕ → List ℕ → Bool
@@ -47,10 +49,13 @@ pub record Safe (t : Table) (o : Operation) : Type 0 where
   pub listed : isOne (operated t o .outcome .answer .number) (DONE ∷ refusalsOf o) ≡ true
   -- done or refused, the clock is its time exactly when it passed the first three checks
   pub clock-moves : operated t o .table .clock ≡ movedBy (gate t (operationTime o)) (operationTime o) (t .clock)
-  -- where it is refused, the clock is all that may have moved, and its number is all that it returns: no reply, no other number
+  -- where it is refused, the clock is all that may have moved, and its number and the place are all that it returns: no reply, no other number
   pub refused-clean :
       ¬ (operated t o .outcome .answer .number ≡ DONE)
-      → operated t o ≡ unchanged (withClock t (operated t o .table .clock)) (operated t o .outcome .answer .number)
+      → operated t o
+      ≡ record { table = withClock t (operated t o .table .clock); outcome = refusalAt (operated t o .outcome .answer .number) (operated t o .outcome .answer .place) }
+  -- and the place is beside FORMAT alone (02, CR 6)
+  pub placed : ¬ (operated t o .outcome .answer .number ≡ FORMAT) → operated t o .outcome .answer .place ≡ 0
 
 pub record Demand1 : Type 0 where
   pub every-call : (t : Table) (o : Operation) → Safe t o
@@ -65,3 +70,12 @@ pub record Demand1 : Type 0 where
       (t : Table) (time : ℕ) (good : Bool) (offer octets buffer : List ℕ)
       → ¬ (messageOn t time good offer (length buffer) octets .outcome .answer .number ≡ DONE)
       → bufferAfter (messageOn t time good offer (length buffer) octets) buffer ≡ buffer
+  -- beside FORMAT, message and look return the place where reading the message first failed (02, CR 6)
+  pub message-place :
+      (t : Table) (time : ℕ) (good : Bool) (offer octets : List ℕ) (room : ℕ)
+      → messageOn t time good offer room octets .outcome .answer .number ≡ FORMAT
+      → readMessage octets ≡ stops (messageOn t time good offer room octets .outcome .answer .place)
+  pub look-place :
+      (t : Table) (octets : List ℕ)
+      → lookOn t octets .outcome .answer .number ≡ FORMAT
+      → readMessage octets ≡ stops (lookOn t octets .outcome .answer .place)

@@ -9,7 +9,7 @@ use Rattle.model.specs.declared.Answer.{Answer}
 use Rattle.model.specs.declared.Pair.{Pair}
 use Rattle.model.specs.Tables.{Table, rowAt, namesOf, pairAt, pairRule, tableRules}
 use Rattle.model.specs.Judging.{Holder}
-use Rattle.model.specs.Calls.{TABLE, refusal, unchanged, gate, leaves, lookStep, look, timeOf, octetsOwner, ownerOf, stepOf, served, lookOn}
+use Rattle.model.specs.Calls.{TABLE, refusalAt, refusal, unchanged, gate, leaves, lookStep, look, timeOf, octetsOwner, ownerOf, stepOf, served, lookOn}
 use Rattle.model.proofs.Rows.{tests, every-member, at-member}
 use Rattle.model.proofs.CallLaws.{holderBy, refused-first, passes-first, leaves-it}
 use Rattle.step.specs.Steps.{Ruled, looked}
@@ -39,7 +39,7 @@ module _ (t : Table) (m : List ℕ) (b : Bool) (is : b ≡ tableRules t) where
   look-passes e = passes-first t (look m) (rw (sym is ∙ e) refl)
 
 pub refuse-all : (w s : List ℕ) (m : List ℕ) {a : Answer} → a ≡ refusal 1 .answer → lookOn (tableOf w s) m ≡ unchanged (tableOf w s) 1 → shown w s a ≡ lookOn (tableOf w s) m
-unfolding unchanged refusal
+unfolding unchanged refusal refusalAt
 refuse-all w s m e is = ap (shown w s) e ∙ sym is
 
 -- ── The step ────────────────────────────────────────────────────────────────────────────────────────────────────────

@@ -47,10 +47,10 @@ abbrev pub number : Table → Operation → ℕ
 number t o = operated t o .outcome .answer .number
 
 abbrev pub done : ℕ → ℕ → Outcome
-done pair serial = record { answer = record { number = 0; length = 0; error = 0; skew = pos 0; pair = pair; serial = serial }; reply = [] }
+done pair serial = record { answer = record { number = 0; length = 0; error = 0; skew = pos 0; pair = pair; serial = serial; place = 0 }; reply = [] }
 
 abbrev pub refused : ℕ → Outcome
-refused n = record { answer = record { number = n; length = 0; error = 0; skew = pos 0; pair = 0; serial = 0 }; reply = [] }
+refused n = record { answer = record { number = n; length = 0; error = 0; skew = pos 0; pair = 0; serial = 0; place = 0 }; reply = [] }
 
 abbrev leaving : Table → Outcome → Result
 leaving t o = record { table = t; outcome = o }

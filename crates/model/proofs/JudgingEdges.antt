@@ -317,7 +317,7 @@ other-pairs = (refl, refl, refl, refl)
 -- A message signed by key 1 of b.example. is passed up with pair 2.
 pub second-pair :
     sent (two 1200 renewing (Adopted (key 2 1200 1600 1800))) 1200 true (query (keyName 2 otherSuffix) (algorithmName Sha256) 1200 300 32) .outcome .answer
-    ≡ record { number = 0; length = 0; error = 0; skew = pos 0; pair = 2; serial = 2 }
+    ≡ record { number = 0; length = 0; error = 0; skew = pos 0; pair = 2; serial = 2; place = 0 }
 unfolding after
 second-pair = refl
 

@@ -300,6 +300,6 @@ pub any-name :
     (headerOf 4660 0 1 0 0 2
     ++ (question (1 ∷ 122 ∷ 0 ∷ []) 249 255
     ++ (recordOctets (keyName 1 suffix) 249 255 0 (tkeyData (algorithmName Sha256) 0 0 5 0 [] []) ++ tsig 1 1000)))) .outcome .answer
-    ≡ record { number = 0; length = 71; error = 0; skew = pos 0; pair = 1; serial = 1 }
+    ≡ record { number = 0; length = 71; error = 0; skew = pos 0; pair = 1; serial = 1; place = 0 }
 unfolding after
 any-name = refl

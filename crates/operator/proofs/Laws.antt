@@ -17,7 +17,7 @@ use Rattle.model.specs.Names.{wireName, algorithmNumbered}
 use Rattle.model.specs.Pairs.{issued, revoked}
 use Rattle.model.specs.Tables.{Table, namesOf, pairAt, withClock, withPair, suffixOk, termOk, serialRule, keysRule, pairRule}
 use Rattle.model.specs.Judging.{adoptedOf}
-use Rattle.model.specs.Calls.{DONE, TABLE, TIME, NOPAIR, NOKEY, SPENT, NAME, TERM, TWIN, FULL, Result, refusal, done, unchanged, timeFits, gate, newTable, withRow, firstSerial, freshPair, enrolled, enrolPassed, enrolOn, numberOwner, issue, revoke, served}
+use Rattle.model.specs.Calls.{DONE, TABLE, TIME, NOPAIR, NOKEY, SPENT, NAME, TERM, TWIN, FULL, Result, refusalAt, refusal, done, unchanged, timeFits, gate, newTable, withRow, firstSerial, freshPair, enrolled, enrolPassed, enrolOn, numberOwner, issue, revoke, served}
 use Rattle.model.proofs.Tests.{each, left, right, and-false}
 use Rattle.model.proofs.CallLaws.{number-none, number-some, issue-nopair, issue-spent, issue-term, issue-done, revoke-nopair, revoke-empty, revoke-expired, revoke-done, enrol-name, enrol-term, enrol-algorithm, enrol-twin, enrol-full, enrol-done}
 use Rattle.pairs.specs.declared.Held.{Held}
@@ -51,7 +51,7 @@ new-in time w s words octets t = rw (room w s words octets) refl
 module _ (time : ℕ) (w s : List ℕ) (a : Answer) where
   module _ (e : a ≡ refusal 1 .answer) where
     made-none : hasRoom w s ≡ false → Made time w s w a
-    unfolding newIn unchanged refusal TABLE
+    unfolding newIn unchanged refusal refusalAt TABLE
     made-none h = record { says = rw (h, e) refl; refused = λ _. refl }
 
     pub made-words : (length w ≡ 1091 → ⊥) → Made time w s w a
@@ -64,7 +64,7 @@ module _ (time : ℕ) (w s : List ℕ) (a : Answer) where
 
   module _ (words : length w ≡ 1091) (octets : length s ≡ 8192) where
     pub made-late : a ≡ refusal 2 .answer → 0xffff_8000_0000 ≤ time → Made time w s w a
-    unfolding newIn newTable unchanged refusal TIME timeFits
+    unfolding newIn newTable unchanged refusal refusalAt TIME timeFits
     made-late e h = record { says = rw (room w s words octets, le-ltb time 0xffff_8000_0000 h, e) refl; refused = λ _. refl }
 
     pub made-done : {w′ : List ℕ} → Cleared time w′ → a ≡ done 0 0 .answer → time < 0xffff_8000_0000 → Made time w s w′ a

@@ -12,7 +12,7 @@ use Rattle.model.specs.declared.Answer.{Answer}
 use Rattle.model.specs.declared.Pair.{Pair}
 use Rattle.model.specs.Octets.{part}
 use Rattle.model.specs.Tables.{Row, Table, rowAt, suffixAt, pairAt, withClock, pairRule, tableRules}
-use Rattle.model.specs.Calls.{DONE, TABLE, TIME, CLOCK, Result, refusal, done, unchanged, timeFits, timeGoesOn, gate, clockAt, Call, timeOf, served, called}
+use Rattle.model.specs.Calls.{DONE, TABLE, TIME, CLOCK, Result, refusalAt, refusal, done, unchanged, timeFits, timeGoesOn, gate, clockAt, Call, timeOf, served, called}
 use Rattle.model.proofs.Tests.{differs}
 use Rattle.model.proofs.Rows.{tests, every-member, at-member}
 use Rattle.model.proofs.CallLaws.{refused-first, passes-first}
@@ -165,7 +165,7 @@ some-refusal (suc n) z = refl
 module _ (call : Table → Result) (w s : List ℕ) {a : Answer} where
   -- refused by the rest of the call
   pub rest-refused : (n : ℕ) → 1 < n → a ≡ refusal n .answer → call (tableOf w s) ≡ unchanged (tableOf w s) n → Rest call w s w s a
-  unfolding unchanged refusal TABLE
+  unfolding unchanged refusal refusalAt TABLE
   rest-refused n h e is =
       record {
         says = ap (shown w s) e ∙ sym is;
@@ -183,7 +183,7 @@ module _ (call : Table → Result) (w s : List ℕ) {a : Answer} where
 -- The whole call, of which `after` is the rest.
 module _ (call : Table → Result) (w s : List ℕ) (time : ℕ) (w₁ : List ℕ) (n : ℕ) (e : Entered w s time w₁ n) where
   pub serve-refused : (n ≡ 0 → ⊥) → {a : Answer} → a ≡ refusal n .answer → call (tableOf w s) ≡ unchanged (tableOf w s) n → Served call w s w₁ s a
-  unfolding unchanged refusal
+  unfolding unchanged refusal refusalAt
   serve-refused z q is =
       let same : w₁ ≡ w = e .refused z in
       record { says = rw (same, q) (sym is); table = λ _. (same, refl); refused = λ _. (e .words, refl) }

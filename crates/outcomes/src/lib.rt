@@ -21,27 +21,13 @@ ghost use Rattle.outcomes.specs.Ends.{Settled};
 pub fn refused(n: u64) -> Answer
     ensures { λ r. ⌜ r ≡ refusal n .answer ⌝ }
 {
-    Answer {
-        number: n,
-        length: 0,
-        error: 0,
-        skew: 0,
-        pair: 0,
-        serial: 0,
-    }
+    results::bare(n, 0, 0, 0)
 }
 
 pub fn finished(pair: u64, serial: u64) -> Answer
     ensures { λ r. ⌜ r ≡ done pair serial .answer ⌝ }
 {
-    Answer {
-        number: 0,
-        length: 0,
-        error: 0,
-        skew: 0,
-        pair,
-        serial,
-    }
+    results::bare(0, pair, serial, 0)
 }
 
 // ── The refusals that come first ────────────────────────────────────────────────────────────────────────────────────

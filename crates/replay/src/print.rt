@@ -85,10 +85,11 @@ fn result_end(text: &mut [u8], at: usize, a: Answer, reply: &[u8]) -> usize {
     let next = number_field(text, at, b' ', a.pair);
     let next = number_field(text, next, b' ', a.serial);
     let next = octets_field(text, next, b' ', reply);
+    let next = number_field(text, next, b' ', a.place);
     octet(text, next, b'\n')
 }
 
-// NUMBER LENGTH TSIGERROR SKEW PAIR SERIAL REPLY
+// NUMBER LENGTH TSIGERROR SKEW PAIR SERIAL REPLY PLACE
 pub fn result(text: &mut [u8], a: Answer, reply: &[u8]) -> usize {
     let next = number(text, 0, a.number);
     let next = number_field(text, next, b' ', a.length);

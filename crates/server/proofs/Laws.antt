@@ -12,8 +12,8 @@ use Rattle.model.specs.Messages.{Message, readMessage}
 use Rattle.model.specs.Tables.{Table, namesOf, pairAt, suffixAt, withClock, withPair}
 use Rattle.model.specs.Checks.{check}
 use Rattle.model.specs.Judging.{Holder, heldPair, Given, Judged, judge}
-use Rattle.model.specs.Calls.{DONE, TABLE, SIZE, OFFER, FORMAT, NOTQUERY, ROOM, Result, refusal, refuses, unchanged, leaves, sizeOk, offerOk, roomFor, replyTo, replied, answered, messageStep, message, messageOn, timeOf, octetsOwner, ownerOf, stepOf, holderAt, served, bufferAfter, Step as ModelStep}
-use Rattle.model.proofs.Tests.{by-check, by-read}
+use Rattle.model.specs.Calls.{DONE, TABLE, SIZE, OFFER, FORMAT, NOTQUERY, ROOM, Result, refusalAt, refusal, refuses, breaks, unchanged, leaves, sizeOk, offerOk, roomFor, replyTo, replied, answered, messageStep, message, messageOn, timeOf, octetsOwner, ownerOf, stepOf, holderAt, served, bufferAfter, Step as ModelStep}
+use Rattle.model.proofs.Tests.{by-check, by-place}
 use Rattle.model.proofs.CallLaws.{same-row, holderBy, withHeld, buffer-refused, changes-it}
 use Rattle.judging.specs.declared.Who.the-variants.{Pair as Owner}
 use Rattle.step.specs.declared.Step.{Step}
@@ -47,8 +47,12 @@ record Quiet (h : Holder) (x : ModelStep) : Type 0 where
 
 module _ (h : Holder) where
   quiet-refusal : (n : ℕ) → 1 < n → Quiet h (refuses h n)
-  unfolding leaves refusal TABLE
+  unfolding leaves refusal refusalAt TABLE
   quiet-refusal n g = record { kept = λ _. refl; passed = λ e. absurd (omega (arith, g, e)) }
+
+  quiet-break : (place : ℕ) → Quiet h (breaks h place)
+  unfolding leaves refusalAt TABLE FORMAT
+  quiet-break place = record { kept = λ _. refl; passed = λ e. absurd (omega (arith, e)) }
 
   quiet-replied : (g : Given) (j : Judged) (reply : List ℕ) → Quiet h (replied h g j reply)
   unfolding replied DONE TABLE
@@ -63,11 +67,11 @@ module _ (h : Holder) where
       passes NOTQUERY (omega arith) (not (m .response)) λ _. passes ROOM (omega arith) (roomFor room (replyTo h g m)) λ _. quiet-replied g (judge h g m) (replyTo h g m)
 
   quiet-message : (g : Given) (room : ℕ) (octets : List ℕ) → Quiet h (messageStep h g room octets)
-  unfolding messageStep SIZE OFFER FORMAT
+  unfolding messageStep SIZE OFFER
   quiet-message g room octets =
       passes SIZE (omega arith) (sizeOk octets) λ _.
       passes OFFER (omega arith) (offerOk (g .offer)) λ _.
-      by-read (Quiet h) (refuses h) FORMAT (quiet-refusal FORMAT (omega arith)) (readMessage octets) λ m _ _.
+      by-place (Quiet h) (breaks h) quiet-break (readMessage octets) λ m _ _.
       quiet-answered g room m
 
 -- ── The pair stored ─────────────────────────────────────────────────────────────────────────────────────────────────

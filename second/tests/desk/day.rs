@@ -134,6 +134,6 @@ fn pointer_to_itself_or_to_octet_11() {
     for pointer in [[0xc0, 12], [0xc0, 11]] {
         let octets = Draft::empty().ask(&pointer, A, IN).octets();
         let result = message(&mut day(), 1000, true, &octets, &[], &mut []);
-        assert_eq!(result, Err(Refusal::Format));
+        assert_eq!(result, Err(Refusal::Format(12)));
     }
 }

@@ -4,6 +4,7 @@ mod build;
 mod clients;
 mod day;
 mod judging;
+mod places;
 mod reading;
 mod refusals;
 mod replies;

@@ -36,7 +36,7 @@ fn numbers() {
         Refusal::Clock,
         Refusal::Size,
         Refusal::Offer,
-        Refusal::Format,
+        Refusal::Format(0),
         Refusal::NotQuery,
         Refusal::Room,
         Refusal::NoPair,
@@ -46,9 +46,10 @@ fn numbers() {
         Refusal::Term,
         Refusal::Twin,
         Refusal::Full,
-        Refusal::MacSize,
     ];
-    assert!((1..=16).eq(numbers.into_iter().map(|refusal| refusal as u8)));
+    assert!((1..=15).eq(numbers.into_iter().map(Refusal::number)));
+    assert!(numbers.into_iter().all(|refusal| refusal.place() == 0));
+    assert_eq!(Refusal::Format(12).place(), 12);
 }
 
 #[test]
@@ -104,7 +105,7 @@ fn look_gives_1_4_6_and_7_only_and_changes_nothing() {
     assert_eq!(look(&broken(), &[]), Err(Refusal::Table));
     assert_eq!(look(&day(), &[0; 11]), Err(Refusal::Size));
     assert_eq!(look(&day(), &[0; 65_536]), Err(Refusal::Size));
-    assert_eq!(look(&day(), &[0xff; 12]), Err(Refusal::Format));
+    assert_eq!(look(&day(), &[0xff; 12]), Err(Refusal::Format(12)));
     let mut response = Draft::ordinary();
     response.flags |= 0x8000;
     let response = response.signed("1.a.example.", 0);
@@ -132,7 +133,7 @@ fn message_4_to_8_in_order() {
     );
     refused_at(day(), 1100, send(&denied, &offer), Refusal::Offer);
     let rest = &response_with_rest;
-    refused_at(day(), 1100, send(rest, &offer[..1024]), Refusal::Format);
+    refused_at(day(), 1100, send(rest, &offer[..1024]), Refusal::Format(12));
     refused_at(day(), 1100, send(response, &[]), Refusal::NotQuery);
     refused_at(day(), 1100, send(&denied, &[]), Refusal::Room);
     // No reply, no room needed.

@@ -22,7 +22,7 @@ fn the_day_lists_as_cr_7_says() {
         pair\t0161076578616d706c6500\t2\t600\t400\n\
         key\tadopted\t1\thmac-sha256\t1000\t1400\t1600\n";
     let script = format!("list\nnew 5\nlist\n{ENROL}list\n");
-    let expected = format!("clock\t0\n0 0 0 0 0 0 -\nclock\t5\n0 0 0 0 1 1 -\n{listing}");
+    let expected = format!("clock\t0\n0 0 0 0 0 0 - 0\nclock\t5\n0 0 0 0 1 1 - 0\n{listing}");
     assert_eq!(output(script.as_bytes()), expected);
 }
 
@@ -36,7 +36,7 @@ fn waiting_keys_and_capitals_in_the_listing() {
     );
     let output = output(script.as_bytes());
     let lines: Vec<&str> = output.lines().collect();
-    assert_eq!(lines[1], "12 0 0 0 0 0 -");
+    assert_eq!(lines[1], "12 0 0 0 0 0 - 0");
     // Header 12, question 7, TKEY 13 + 10 + 13 + 16 + 2 + 26, KEY 8 + 10 + 6.
     assert!(lines[4].starts_with("0 123 0 0 2 1 123481000001000100000001"));
     let listing = [
@@ -62,11 +62,11 @@ fn results() {
          new 281472829227008\nrevoke 1299 1\nrevoke 01300 1\n"
     );
     let expected = format!(
-        "0 0 0 0 1 1 -\n0 0 0 -300 1 1 -\n8 0 0 0 0 0 -\n\
-         0 27 16 0 1 1 1234810900010000 00000000 {question}\n\
-         0 0 0 0 1 1 -\n0 0 0 0 0 0 -\n4 0 0 0 0 0 -\n\
-         0 27 17 0 0 0 1234810900010000 00000000 {question}\n\
-         0 0 0 0 1 2 -\n9 0 0 0 0 0 -\n2 0 0 0 0 0 -\n3 0 0 0 0 0 -\n0 0 0 0 1 2 -\n"
+        "0 0 0 0 1 1 - 0\n0 0 0 -300 1 1 - 0\n8 0 0 0 0 0 - 0\n\
+         0 27 16 0 1 1 1234810900010000 00000000 {question} 0\n\
+         0 0 0 0 1 1 - 0\n0 0 0 0 0 0 - 0\n4 0 0 0 0 0 - 0\n\
+         0 27 17 0 0 0 1234810900010000 00000000 {question} 0\n\
+         0 0 0 0 1 2 - 0\n9 0 0 0 0 0 - 0\n2 0 0 0 0 0 - 0\n3 0 0 0 0 0 - 0\n0 0 0 0 1 2 - 0\n"
     )
     .replace("00010000 00000000 ", "0001000000000000");
     assert_eq!(output(script.as_bytes()), expected);
@@ -243,7 +243,7 @@ fn bad_lines_of_the_resolver() {
 #[test]
 fn each_half_leaves_the_other_alone() {
     let script = format!("{ENROL}{HOLD}new 7\nkeys\nlist\n");
-    let expected = "0 0 0 0 1 1 -\n0\n0 0 0 0 0 0 -\nresolver\t-\t-\tadopted\n\
+    let expected = "0 0 0 0 1 1 - 0\n0\n0 0 0 0 0 0 - 0\nresolver\t-\t-\tadopted\n\
         key\tadopted\t01310161076578616d706c6500\thmac-sha256\t1000\t1600\nclock\t7\n";
     assert_eq!(output(script.as_bytes()), expected);
 }
@@ -252,7 +252,23 @@ fn each_half_leaves_the_other_alone() {
 fn good_lines_of_odd_looks() {
     let script = "new 000000000000000000000000000000007\nrevoke 7 18446744073709551615\n\
         enrol 7 - 1 1 1\nlook aBCDef\n";
-    let expected = "0 0 0 0 0 0 -\n9 0 0 0 0 0 -\n12 0 0 0 0 0 -\n4 0 0 0 0 0 -\n";
+    let expected = "0 0 0 0 0 0 - 0\n9 0 0 0 0 0 - 0\n12 0 0 0 0 0 - 0\n4 0 0 0 0 0 - 0\n";
+    assert_eq!(output(script.as_bytes()), expected);
+}
+
+/// CR 6: the place in look and message; every other result has place 0.
+#[test]
+fn places() {
+    let itself = "123400000001000000000000c00c00010001";
+    let cut = "1234000000010000000000000000f900";
+    let left_over = "12340000000000000000000000";
+    let script = format!(
+        "look {itself}\nmessage 9 good - 0 {cut}\nmessage 9 bad 00 512 {left_over}\n\
+         look {}\nmessage 8 good - 0 {itself}\n",
+        &itself[..22]
+    );
+    let expected = "6 0 0 0 0 0 - 12\n6 0 0 0 0 0 - 16\n6 0 0 0 0 0 - 12\n\
+        4 0 0 0 0 0 - 0\n3 0 0 0 0 0 - 0\n";
     assert_eq!(output(script.as_bytes()), expected);
 }
 
@@ -260,7 +276,7 @@ fn good_lines_of_odd_looks() {
 fn a_bad_last_word_changes_nothing() {
     let script = format!("{ENROL}issue 2000 1 x\nmessage 3000 good - 9 0\nlist\n");
     let output = output(script.as_bytes());
-    assert!(output.starts_with("0 0 0 0 1 1 -\nbad line 2\nbad line 3\nclock\t1000\npair"));
+    assert!(output.starts_with("0 0 0 0 1 1 - 0\nbad line 2\nbad line 3\nclock\t1000\npair"));
 }
 
 #[test]
@@ -278,7 +294,7 @@ fn lines_of_200000_octets_and_one_more() {
     let new = |digits: usize| [b"new ".to_vec(), vec![b'0'; digits]].concat();
     let longest = new(199_996);
     assert_eq!(longest.len(), 200_000);
-    let (good, bad) = ("0 0 0 0 0 0 -\n", "bad line 1\n");
+    let (good, bad) = ("0 0 0 0 0 0 - 0\n", "bad line 1\n");
     assert_eq!(output(&longest), good);
     assert_eq!(output(&new(199_997)), bad);
     let followed = |line: Vec<u8>| output(&[&line[..], b"\nlist"].concat());
@@ -301,5 +317,5 @@ fn the_runner_shows_only_the_reply_of_this_call() {
     let script = format!("message 5 good - 100 {denied}\nmessage 5 good - 5 {denied}\nissue 5 1 1");
     let output = output(script.as_bytes());
     let lines: Vec<&str> = output.lines().collect();
-    assert_eq!(lines[1..], ["8 0 0 0 0 0 -", "9 0 0 0 0 0 -"]);
+    assert_eq!(lines[1..], ["8 0 0 0 0 0 - 0", "9 0 0 0 0 0 - 0"]);
 }

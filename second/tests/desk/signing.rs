@@ -1,8 +1,7 @@
 //! CR 3: the octets under a signature, the TSIG put on, read back and removed.
 
 use second::script::run;
-use second::signing::{digest_reply, digest_request, finish, read_back, remove, Fields};
-use second::Refusal;
+use second::signing::{digest_reply, digest_request, finish, read_back, remove, Fields, Refusal};
 
 use crate::build::*;
 
@@ -370,7 +369,6 @@ fn times_and_mac_sizes() {
         assert_eq!(at(1 << 48), Some(Refusal::Time));
         assert_eq!(at(u64::MAX), Some(Refusal::Time));
     }
-    assert_eq!(Refusal::MacSize as u8, 16);
     for call in WITH_MAC {
         let with = |length| written(call, &query, &fields(), &vec![1; length], 512).err();
         assert_eq!(with(64), None);

@@ -4,7 +4,7 @@
 #[path = "../../../../second/tests/desk/build.rs"]
 pub mod build;
 
-use luffcringle::{Octets, Table, View, Words, TABLE_OCTETS, TABLE_WORDS};
+use luffcringle::{Answer, Octets, Refusal, Table, View, Words, TABLE_OCTETS, TABLE_WORDS};
 use second::Algorithm;
 
 // ---- The layout ----
@@ -168,14 +168,33 @@ fn key_of(key: &luffcringle::Key) -> second::Key {
 }
 
 /// What the second reader answers, as the wrapper says it.
-pub fn as_ours(theirs: Result<second::Done, second::Refusal>) -> Result<luffcringle::Answer, u64> {
-    theirs
-        .map_err(|refusal| refusal as u64)
-        .map(|done| luffcringle::Answer {
-            length: done.length,
-            error: done.error,
-            skew: done.skew,
-            pair: done.pair,
-            serial: done.serial,
-        })
+pub fn as_ours(theirs: Result<second::Done, second::Refusal>) -> Result<Answer, Refusal> {
+    theirs.map_err(refusal_of).map(|done| Answer {
+        length: done.length,
+        error: done.error,
+        skew: done.skew,
+        pair: done.pair,
+        serial: done.serial,
+    })
+}
+
+fn refusal_of(refusal: second::Refusal) -> Refusal {
+    use {luffcringle::Refusal as Ours, second::Refusal as Theirs};
+    match refusal {
+        Theirs::Table => Ours::Table,
+        Theirs::Time => Ours::Time,
+        Theirs::Clock => Ours::Clock,
+        Theirs::Size => Ours::Size,
+        Theirs::Offer => Ours::Offer,
+        Theirs::Format(place) => Ours::Format { place },
+        Theirs::NotQuery => Ours::NotQuery,
+        Theirs::Room => Ours::Room,
+        Theirs::NoPair => Ours::NoPair,
+        Theirs::NoKey => Ours::NoKey,
+        Theirs::Spent => Ours::Spent,
+        Theirs::Name => Ours::Name,
+        Theirs::Term => Ours::Term,
+        Theirs::Twin => Ours::Twin,
+        Theirs::Full => Ours::Full,
+    }
 }

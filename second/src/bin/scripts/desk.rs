@@ -132,6 +132,8 @@ pub struct Outcome {
     pub pair: u64,
     pub serial: u64,
     pub reply: Vec<u8>,
+    /// Where reading failed, beside FORMAT.
+    pub place: u64,
 }
 
 fn skip_name(octets: &[u8], mut at: usize) -> usize {
@@ -158,7 +160,7 @@ impl Outcome {
             seen.listed = true;
         } else {
             let words: Vec<&str> = printed.trim_end_matches('\n').split(' ').collect();
-            assert_eq!(words.len(), 7, "seven words in {printed:?}");
+            assert_eq!(words.len(), 8, "eight words in {printed:?}");
             seen.number = read_number(words[0]);
             seen.length = read_number(words[1]);
             seen.error = read_number(words[2]);
@@ -166,6 +168,7 @@ impl Outcome {
             seen.pair = read_number(words[4]);
             seen.serial = read_number(words[5]);
             seen.reply = read_hex(words[6]);
+            seen.place = read_number(words[7]);
         }
         seen
     }
@@ -197,7 +200,7 @@ impl Outcome {
         })
     }
 
-    /// A refusal returns its number and nothing else.
+    /// A refusal returns its number, FORMAT its place, and nothing else.
     pub fn is_bare(&self) -> bool {
         self.length == 0
             && self.error == 0
@@ -205,6 +208,7 @@ impl Outcome {
             && self.pair == 0
             && self.serial == 0
             && self.reply.is_empty()
+            && (self.number == 6 || self.place == 0)
     }
 }
 
@@ -212,6 +216,8 @@ impl Outcome {
 #[derive(Clone, Copy, Debug, PartialEq)]
 pub enum Want {
     Refused(u64),
+    /// Refused with FORMAT at this place.
+    Format(usize),
     /// RCODE 1 of step 1.
     Ill,
     /// RCODE 1 of steps 4 and 6.
@@ -256,6 +262,9 @@ impl Want {
         }
         match self {
             Want::Refused(number) => seen.number == *number && seen.is_bare(),
+            Want::Format(place) => {
+                seen.number == 6 && seen.is_bare() && seen.place == *place as u64
+            }
             Want::Handed => seen.number == 0 && seen.is_bare(),
             Want::Passed(skew) => {
                 seen.number == 0

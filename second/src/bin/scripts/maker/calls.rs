@@ -105,7 +105,7 @@ impl Maker<'_> {
     /// The reply that the papers ask for, read apart from the reader under test.
     pub fn due_reply(&self, call: &Call, ask: &Ask, want: Want) -> Vec<u8> {
         match want {
-            Want::Refused(_) | Want::Passed(_) | Want::Handed => Vec::new(),
+            Want::Refused(_) | Want::Format(_) | Want::Passed(_) | Want::Handed => Vec::new(),
             Want::Tkey(error) => self.due_tkey_reply(call, ask, error),
             _ => ask.plain_reply(want.rcode()),
         }

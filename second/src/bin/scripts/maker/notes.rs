@@ -32,6 +32,7 @@ impl Maker<'_> {
         if seen.number != 0 {
             self.check_refused(before, seen);
         }
+        self.check_place(seen, words[words.len() - 1]);
     }
 
     /// The resolver's lines.
@@ -92,6 +93,19 @@ impl Maker<'_> {
         }
         if self.table.pairs != before.pairs {
             self.surprise("a refusal changed a pair");
+        }
+    }
+
+    /// The place beside FORMAT is behind the header and in the message or at its end; every
+    /// other result has place 0.
+    fn check_place(&mut self, seen: &Outcome, message: &str) {
+        let length = message.len() as u64 / 2;
+        let is_good = match seen.number {
+            6 => (12..=length).contains(&seen.place),
+            _ => seen.place == 0,
+        };
+        if !is_good {
+            self.surprise("the place is not as it should be");
         }
     }
 

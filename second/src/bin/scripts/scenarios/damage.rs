@@ -82,7 +82,10 @@ fn cut_message(maker: &mut Maker, s: &Signer, kind: &str) -> bool {
     let octets = valid(maker, s, kind).octets();
     let call = maker.call(s.time);
     (0..octets.len()).all(|length| {
-        let want = Want::Refused(if length < 12 { 4 } else { 6 });
+        let want = match length {
+            0..12 => Want::Refused(4),
+            _ => Want::Format(length),
+        };
         match maker.rng.chance(20) {
             true => want.fits(&maker.look(&octets[..length])),
             false => maker.sends(&call, &octets[..length], want),
@@ -164,11 +167,14 @@ fn count(maker: &mut Maker, item: &str) -> bool {
         _ => ask.tail = vec![0; 11],
     }
     let octets = ask.octets();
+    let left_over = octets.len() - ask.tail.len();
     let call = maker.call(s.time);
     match item {
         "answers counted as authorities" => maker.sends(&call, &octets, Want::Passed(0)),
         // What a question read as a record comes to depends on its octets.
         "questions too high" | "questions too low" => !maker.send(&call, &octets).bad,
+        "additionals too high" => maker.sends(&call, &octets, Want::Format(octets.len())),
+        _ if !ask.tail.is_empty() => maker.sends(&call, &octets, Want::Format(left_over)),
         _ => maker.sends(&call, &octets, Want::Refused(6)),
     }
 }
@@ -209,8 +215,13 @@ fn length(maker: &mut Maker, item: &str) -> bool {
         }
         _ => first_length(maker, &s, item),
     };
-    // With the next record taken in, the counts ask for one more record than there is.
-    maker.sends(&call, &octets, Want::Refused(6))
+    let want = match item {
+        "last one short" => Want::Format(octets.len() - 1),
+        "last 0" => Want::Refused(6),
+        // With the next record taken in, the counts ask for one more record than there is.
+        _ => Want::Format(octets.len()),
+    };
+    maker.sends(&call, &octets, want)
 }
 
 /// The TSIG, which is last, with another RDLENGTH than its data has.

@@ -8,6 +8,7 @@ mod large;
 mod lines;
 mod mixture;
 mod names;
+mod places;
 mod refusals;
 mod requests;
 mod rooms;
@@ -83,6 +84,7 @@ pub fn groups() -> Vec<Group> {
     all.extend(times::groups());
     all.extend(names::groups());
     all.extend(damage::groups());
+    all.extend(places::groups());
     all.extend(tsigs::groups());
     all.extend(tkeys::groups());
     all.extend(rooms::groups());

@@ -1,0 +1,19 @@
+// The numbers of a call that has no reply (01, "Numbers a caller sees"; 02, CR 6).
+use model::Answer;
+ghost use mathlib.Core.Path.{_≡_};
+ghost use Rattle.results.specs.Bare.{bareAs};
+
+// A refusal, by its number and the place where reading failed, or a call that is done, by the pair and the serial of its key. All else is 0.
+pub fn bare(number: u64, pair: u64, serial: u64, place: u64) -> Answer
+    ensures { λ r. ⌜ r ≡ bareAs number pair serial place ⌝ }
+{
+    Answer {
+        number,
+        length: 0,
+        error: 0,
+        skew: 0,
+        pair,
+        serial,
+        place,
+    }
+}

@@ -1,4 +1,4 @@
-/* Luffcringle: the key table of a DNS server and its six calls, for C. The functions are those of the crate capi, whose contracts say what each call
+/* Luffcringle: the key table of a DNS server and its seven calls, for C. The functions are those of the crate capi, whose contracts say what each call
  * leaves, for every value of every argument; link target/staticlib/libcapi.a (rt staticlib capi). */
 #ifndef LUFFCRINGLE_H
 #define LUFFCRINGLE_H
@@ -11,7 +11,7 @@
 extern "C" {
 #endif
 
-/* What a call returns, and the first word of its answer (document 01, "Numbers a caller sees"). */
+/* What a call returns, and the first word of its answer (document 01, "Numbers a caller sees"; the batch's own is of document 02). */
 enum luffcringle_number {
     LUFFCRINGLE_DONE = 0,      /* work done */
     LUFFCRINGLE_TABLE = 1,     /* what was lent holds no table, or one that breaks a table rule */
@@ -28,7 +28,8 @@ enum luffcringle_number {
     LUFFCRINGLE_NAME = 12,     /* suffix is not a wire name of 3 to 128 octets */
     LUFFCRINGLE_TERM = 13,     /* enrol: not 1 <= fresh < lifetime <= 2^31 - 1; enrol or issue: algorithm not 256, 384 or 512 */
     LUFFCRINGLE_TWIN = 14,     /* suffix already enrolled */
-    LUFFCRINGLE_FULL = 15      /* 64 pairs enrolled */
+    LUFFCRINGLE_FULL = 15,     /* 64 pairs enrolled */
+    LUFFCRINGLE_BATCH = 17     /* batch: more than 64 items, or one outside the lent octets */
 };
 
 /* The table: 1091 words and 8192 octets, which the caller keeps and lends to each call. A call reads and changes it where it lies.
@@ -62,14 +63,14 @@ struct luffcringle_table {
     uint8_t suffixes[LUFFCRINGLE_TABLE_OCTETS];
 };
 
-/* The answer: seven words, which every call writes. A refusal writes its number, FORMAT its place, and 0 in all others.
+/* The answer: seven words, which every call writes, a batch for each item. A refusal writes its number, FORMAT its place, and 0 in all others.
  *
  * The place tells an operator where to open the message: it is the octet, from 0, that first breaks a rule in the order of reading, or the first that
  * is left over, or the message's length where an octet is missing. Of a pointer with a forbidden target it is the pointer's first octet; of a name too
  * long, the length octet of the label that takes it, its final 0 counted, past 255. Behind a pointer it can be lower than octets read before. */
 #define LUFFCRINGLE_ANSWER_WORDS 7
 enum luffcringle_answer {
-    LUFFCRINGLE_NUMBER = 0,  /* as returned */
+    LUFFCRINGLE_NUMBER = 0,  /* as returned; of a batch's item, what luffcringle_message would have returned */
     LUFFCRINGLE_LENGTH = 1,  /* octets of the reply; 0 where there is none */
     LUFFCRINGLE_ERROR = 2,   /* the TSIG error of the reply; 0 where there is none */
     LUFFCRINGLE_SKEW = 3,    /* time signed minus time, of a message that is passed up: cast to int64_t (two's complement) */
@@ -80,17 +81,17 @@ enum luffcringle_answer {
 
 /* What every call keeps to:
  * - It is refused for the first reason that applies, in the order in which its refusals are listed.
- * - TABLE leaves every word and every octet of the table. So does every other refusal, but for the clock (word 0), which it sets where TABLE, TIME
- *   and CLOCK passed. A refusal leaves every octet of the reply buffer.
+ * - TABLE leaves every word and every octet of the table, and so does BATCH. So does every other refusal, but for the clock (word 0), which it sets
+ *   where TABLE, TIME and CLOCK passed. A refusal leaves every octet of the reply buffer.
  * - An issue, a revoke or a message that is done changes the clock and the words + 2 .. 15 of its own pair, those without meaning included, and no
- *   other word. A message's own pair is the one whose suffix follows the first label of its TSIG's name; it may have none. Enrol moves pairs to other
- *   places; their numbers stay.
+ *   other word. A message's own pair is the one whose suffix follows the first label of its TSIG's name; it may have none. A batch changes what its
+ *   messages change. Enrol moves pairs to other places; their numbers stay.
  * - After every call, done or refused, what was lent holds exactly the table that the call left.
  * - A call reads and writes only what it is lent, keeps nothing and allocates nothing. Two threads may call at the same time, but not on one table:
  *   a call may not write a table that another call reads or writes. Two looks may share one.
  * - Pointers: none is null, also where the length is 0; each leads to as many words or octets as its length says (words: 1091, suffixes: 8192,
- *   answer: 7), aligned for its type; what is written (what is not const) overlaps nothing else that is lent. That is the caller's to keep: no call
- *   can test it.
+ *   answer: 7, items: 384, answers: 448), aligned for its type; what is written (what is not const) overlaps nothing else that is lent. That is the
+ *   caller's to keep: no call can test it.
  * - Times are seconds since 1970. MACs, secrets and key data are the caller's. */
 
 /* New table: no pairs, its clock the time given, whatever was lent. Refused with TIME, which leaves every word. */
@@ -142,6 +143,40 @@ uint64_t luffcringle_look(const uint64_t words[LUFFCRINGLE_TABLE_WORDS], const u
 uint64_t luffcringle_message(uint64_t words[LUFFCRINGLE_TABLE_WORDS], const uint8_t suffixes[LUFFCRINGLE_TABLE_OCTETS], uint64_t time, bool good,
                              const uint8_t *message, size_t message_length, const uint8_t *offer, size_t offer_length, uint8_t *reply,
                              size_t reply_room, uint64_t answer[LUFFCRINGLE_ANSWER_WORDS]);
+
+/* A batch's item: six words, item i from word 6 i on; its answer is seven, from word 7 i on. */
+#define LUFFCRINGLE_MOST_ITEMS 64
+#define LUFFCRINGLE_ITEM_WORDS 6
+#define LUFFCRINGLE_ITEMS_WORDS 384
+#define LUFFCRINGLE_ANSWERS_WORDS 448
+enum luffcringle_item {
+    LUFFCRINGLE_ITEM_TIME = 0,
+    LUFFCRINGLE_ITEM_GOOD = 1,          /* the verdict on the MAC: 1 is good, every other value bad */
+    LUFFCRINGLE_ITEM_MESSAGE = 2,       /* where the message stands in the octets: its first place, from 0 */
+    LUFFCRINGLE_ITEM_MESSAGE_SIZE = 3,  /* and its length */
+    LUFFCRINGLE_ITEM_OFFER = 4,         /* where the offer stands, likewise */
+    LUFFCRINGLE_ITEM_OFFER_SIZE = 5
+};
+
+/* Batch: up to 64 messages in one call, for a queue. The first `count` items are taken in order, each as luffcringle_message would take it at the
+ * item's own time, on the table that the item before left, refused or not. `octets` hold all messages and offers; items may share octets, and octets
+ * may be in no item. Lend all 64 items and answers always: items from `count` on are not read, and their answers stay as they are.
+ *
+ * DONE: each item's answer says what luffcringle_message would have answered, a refusal of that item included. The replies lie one after another in
+ * `replies`, each as long as its answer says: the first begins at 0, the next where that one ends. An item is lent the room that is left; a refused
+ * item takes none, so that a shorter reply may still be written behind one that had no room. There is no room between replies: copy one out to append
+ * its TSIG.
+ *
+ * Refused whole with TABLE, then with BATCH: count is over 64, or a message or an offer is not inside the octets. It is inside where its first place
+ * and its length, added without bound, are at most octets_length; so a part of no octets may stand at the end, but not
+ * past it. Then no item is judged,
+ * and nothing that is lent changes, the clock included.
+ *
+ * All verdicts are given before the first item is judged: a look before the batch does not find a key that an item of the batch adopts. Leave the
+ * messages that such a key signs to the next batch. */
+uint64_t luffcringle_batch(uint64_t words[LUFFCRINGLE_TABLE_WORDS], const uint8_t suffixes[LUFFCRINGLE_TABLE_OCTETS], uint64_t count,
+                           const uint64_t items[LUFFCRINGLE_ITEMS_WORDS], const uint8_t *octets, size_t octets_length,
+                           uint64_t answers[LUFFCRINGLE_ANSWERS_WORDS], uint8_t *replies, size_t replies_room);
 
 #ifdef __cplusplus
 }

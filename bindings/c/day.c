@@ -8,7 +8,8 @@
 
 #include "luffcringle.h"
 
-enum { LONGEST_LINE = 200000, MOST_OCTETS = LONGEST_LINE / 2, MOST_ROOM = 65535, MOST_WORDS = 6 };
+enum { LONGEST_LINE = 200000, MOST_OCTETS = LONGEST_LINE / 2, MOST_WORDS = LONGEST_LINE + 1 };
+enum { MOST_ROOM = 65535, MOST_BATCH_ROOM = 100000 };
 
 /* Where the words of a table and of a row are, and how many octets a suffix has for itself (luffcringle.h). */
 enum { CLOCK = 0, COUNT = 1, MAP = 3, ROWS = 67, ROW_WORDS = 16, SUFFIX_OCTETS = 128 };
@@ -25,8 +26,8 @@ struct octets {
 };
 
 static struct luffcringle_table table;
-static uint64_t answer[LUFFCRINGLE_ANSWER_WORDS];
-static uint8_t reply[MOST_ROOM];
+static uint64_t answer[LUFFCRINGLE_ANSWER_WORDS], items[LUFFCRINGLE_ITEMS_WORDS], answers[LUFFCRINGLE_ANSWERS_WORDS];
+static uint8_t reply[MOST_ROOM], replies[MOST_BATCH_ROOM];
 static struct octets suffix, message, offer;
 
 /* ---- Reading ---- */
@@ -46,15 +47,12 @@ static bool read_line(char *line, size_t *length) {
     return true;
 }
 
-/* The words between single spaces; MOST_WORDS + 1 where there are more than a call has. */
-static int split(const char *line, size_t length, struct word *words) {
-    int count = 0;
-    size_t start = 0;
+/* The words between single spaces, and their count. */
+static size_t split(const char *line, size_t length, struct word *words) {
+    size_t count = 0, start = 0;
     for (size_t at = 0; at <= length; at++) {
         if (at < length && line[at] != ' ')
             continue;
-        if (count == MOST_WORDS)
-            return MOST_WORDS + 1;
         words[count++] = (struct word){line + start, at - start};
         start = at + 1;
     }
@@ -105,6 +103,18 @@ static bool read_verdict(struct word w, bool *good) {
     return *good || is(w, "bad");
 }
 
+/* The six words of an item. */
+static bool read_item(const struct word *w, uint64_t *item) {
+    bool good;
+    if (!read_verdict(w[LUFFCRINGLE_ITEM_GOOD], &good))
+        return false;
+    for (int i = 0; i < LUFFCRINGLE_ITEM_WORDS; i++)
+        if (i != LUFFCRINGLE_ITEM_GOOD && !read_number(w[i], item + i))
+            return false;
+    item[LUFFCRINGLE_ITEM_GOOD] = good;
+    return true;
+}
+
 /* ---- Printing ---- */
 
 static void print_hex(const uint8_t *octets, size_t length) {
@@ -112,14 +122,27 @@ static void print_hex(const uint8_t *octets, size_t length) {
         printf("%02x", octets[i]);
 }
 
-static void print_answer(void) {
-    size_t length = (size_t)answer[LUFFCRINGLE_LENGTH];
-    printf("%" PRIu64 " %zu %" PRIu64 " %" PRId64 " %" PRIu64 " %" PRIu64 " ", answer[LUFFCRINGLE_NUMBER], length, answer[LUFFCRINGLE_ERROR],
-           (int64_t)answer[LUFFCRINGLE_SKEW], answer[LUFFCRINGLE_PAIR], answer[LUFFCRINGLE_SERIAL]);
+static void print_answer(const uint64_t *told, const uint8_t *written) {
+    size_t length = (size_t)told[LUFFCRINGLE_LENGTH];
+    printf("%" PRIu64 " %zu %" PRIu64 " %" PRId64 " %" PRIu64 " %" PRIu64 " ", told[LUFFCRINGLE_NUMBER], length, told[LUFFCRINGLE_ERROR],
+           (int64_t)told[LUFFCRINGLE_SKEW], told[LUFFCRINGLE_PAIR], told[LUFFCRINGLE_SERIAL]);
     if (length == 0)
         putchar('-');
-    print_hex(reply, length);
-    printf(" %" PRIu64 "\n", answer[LUFFCRINGLE_PLACE]);
+    print_hex(written, length);
+    printf(" %" PRIu64 "\n", told[LUFFCRINGLE_PLACE]);
+}
+
+/* A reply begins where the one before it ends. */
+static void print_batch(uint64_t number, uint64_t count) {
+    const uint8_t *written = replies;
+    if (number != LUFFCRINGLE_DONE)
+        count = 0;
+    printf("%" PRIu64 " %" PRIu64 "\n", number, count);
+    for (uint64_t i = 0; i < count; i++) {
+        const uint64_t *told = answers + LUFFCRINGLE_ANSWER_WORDS * i;
+        print_answer(told, written);
+        written += told[LUFFCRINGLE_LENGTH];
+    }
 }
 
 static void print_key(const char *state, const uint64_t *key) {
@@ -198,9 +221,27 @@ static bool call_message(const struct word *w) {
     return true;
 }
 
+/* Of more than 64 items the count alone is told, but all must read. */
+static bool run_batch(const struct word *w, size_t words) {
+    uint64_t room, count = (words - 3) / LUFFCRINGLE_ITEM_WORDS;
+    if ((words - 3) % LUFFCRINGLE_ITEM_WORDS != 0 || !read_number(w[1], &room) || !read_octets(w[2], &message))
+        return false;
+    for (uint64_t i = 0; i < count; i++) {
+        uint64_t item[LUFFCRINGLE_ITEM_WORDS];
+        if (!read_item(w + 3 + LUFFCRINGLE_ITEM_WORDS * i, item))
+            return false;
+        if (i < LUFFCRINGLE_MOST_ITEMS)
+            memcpy(items + LUFFCRINGLE_ITEM_WORDS * i, item, sizeof item);
+    }
+    print_batch(luffcringle_batch(table.words, table.suffixes, count, items, message.octet, message.length, answers, replies,
+                                  room < MOST_BATCH_ROOM ? (size_t)room : MOST_BATCH_ROOM),
+                count);
+    return true;
+}
+
 static const struct {
     const char *word;
-    int words;
+    size_t words;
     bool (*call)(const struct word *);
 } calls[] = {
     {"new", 2, call_new},       {"enrol", 6, call_enrol}, {"issue", 4, call_issue},
@@ -208,15 +249,17 @@ static const struct {
 };
 
 static bool run_line(const char *line, size_t length) {
-    struct word words[MOST_WORDS];
-    int count = split(line, length, words);
+    static struct word words[MOST_WORDS];
+    size_t count = split(line, length, words);
     if (count == 1 && is(words[0], "list")) {
         print_table();
         return true;
     }
+    if (count >= 3 && is(words[0], "batch"))
+        return run_batch(words, count);
     for (size_t i = 0; i < sizeof calls / sizeof calls[0]; i++)
         if (count == calls[i].words && is(words[0], calls[i].word) && calls[i].call(words)) {
-            print_answer();
+            print_answer(answer, reply);
             return true;
         }
     return false;

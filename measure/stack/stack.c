@@ -20,7 +20,7 @@ enum { COUNT = 1, MAP = 3, ROWS = 67, ROW_WORDS = 16, NEXT_SERIAL = 4, KEYS = 5,
 
 static uint8_t stack[STACK] __attribute__((aligned(64))), message[MESSAGE], reply[MESSAGE];
 static struct luffcringle_table almost, full, renewed, table;
-static uint64_t answer[LUFFCRINGLE_ANSWER_WORDS];
+static uint64_t answer[LUFFCRINGLE_ANSWER_WORDS], items[LUFFCRINGLE_ITEMS_WORDS], answers[LUFFCRINGLE_ANSWERS_WORDS];
 static size_t size, base;
 static int failed;
 static ucontext_t here, there;
@@ -38,6 +38,12 @@ static void revoke_early(void) { luffcringle_revoke(table.words, table.suffixes,
 static void look(void) { luffcringle_look(table.words, table.suffixes, message, size, answer); }
 static void judge(void) {
     luffcringle_message(table.words, table.suffixes, NOW, true, message, size, offer, sizeof offer, reply, sizeof reply, answer);
+}
+
+/* 64 items with the same message; the last one's answer is looked at. */
+static void queue(void) {
+    luffcringle_batch(table.words, table.suffixes, LUFFCRINGLE_MOST_ITEMS, items, message, size, answers, reply, sizeof reply);
+    memcpy(answer, answers + LUFFCRINGLE_ANSWERS_WORDS - LUFFCRINGLE_ANSWER_WORDS, sizeof answer);
 }
 
 /* ---- What a call did, beside being done ---- */
@@ -185,6 +191,13 @@ static void enrol_all(uint64_t count) {
     }
 }
 
+static void fill_queue(void) {
+    for (size_t i = 0; i < LUFFCRINGLE_MOST_ITEMS; i++) {
+        uint64_t *item = items + LUFFCRINGLE_ITEM_WORDS * i;
+        item[LUFFCRINGLE_ITEM_TIME] = NOW, item[LUFFCRINGLE_ITEM_GOOD] = 1, item[LUFFCRINGLE_ITEM_MESSAGE_SIZE] = size;
+    }
+}
+
 int main(int argc, char **argv) {
     if (argc != 4) return fputs("stack CHAIN RECORDS QUESTIONS\n", stderr), 2;
     enrol_all(63), almost = table;
@@ -199,6 +212,7 @@ int main(int argc, char **argv) {
     update();
     show("look", &full, look, is_signed, MOST);
     show("message: an ordinary update", &full, judge, is_signed, ORDINARY);
+    fill_queue(), show("batch: 64 of them", &full, queue, is_signed, MOST);
     renewal(), show("message: a renewal that is granted", &full, judge, is_granted, MOST);
     adoption(), show("message: an adoption", &renewed, judge, is_adopted, MOST);
     deepest(RENEWAL), show("message: a renewal that is granted, the deepest names of TKEY and KEY", &full, judge, is_granted_long, MOST);

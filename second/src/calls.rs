@@ -9,7 +9,7 @@ use crate::wire::Message;
 /// The first time that is refused.
 pub const TIME_LIMIT: u64 = (1 << 48) - (1 << 31);
 
-/// The refusals of 01's table.
+/// The refusals of 01's table, and CR 4's.
 #[derive(Clone, Copy, Debug, PartialEq, Eq)]
 pub enum Refusal {
     Table,
@@ -28,10 +28,11 @@ pub enum Refusal {
     Term,
     Twin,
     Full,
+    Batch,
 }
 
 impl Refusal {
-    /// 01 "Numbers a caller sees".
+    /// 01 "Numbers a caller sees", and CR 4.
     pub fn number(self) -> u8 {
         match self {
             Refusal::Table => 1,
@@ -49,6 +50,7 @@ impl Refusal {
             Refusal::Term => 13,
             Refusal::Twin => 14,
             Refusal::Full => 15,
+            Refusal::Batch => 17,
         }
     }
 

@@ -10,9 +10,11 @@
 //!
 //! `resolver` is the other half of the protocol (CR 1): it writes the requests
 //! and reads the replies. `signing` has the octets under a MAC, and puts a TSIG
-//! on and takes it off (CR 3); it knows no key.
+//! on and takes it off (CR 3); it knows no key. `batch` makes several message
+//! calls in one (CR 4).
 #![forbid(unsafe_code)]
 
+pub mod batch;
 pub mod calls;
 mod judging;
 pub mod names;
@@ -23,6 +25,7 @@ pub mod signing;
 pub mod table;
 mod wire;
 
+pub use batch::batch;
 pub use calls::{enrol, issue, look, message, new, revoke, Done, Refusal};
 pub use table::{Algorithm, Key, Keys, Pair, Table};
 pub use wire::Tsig;

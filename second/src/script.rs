@@ -3,6 +3,7 @@
 
 use std::io::{self, BufRead, Read, Write};
 
+use crate::batch::{self, Item, Span};
 use crate::calls::{self, Done, Refusal};
 use crate::resolver::{self, Asked, Resolver, Which, Wish, Written};
 use crate::signing::{self, Fields};
@@ -13,14 +14,18 @@ use crate::wire::Tsig;
 pub const LONGEST_LINE: usize = 200_000;
 /// The most room that a reply or a request can use.
 const MOST_ROOM: usize = 65_535;
-/// The most room that is lent for the octets of a signing line.
-const MOST_SIGNING_ROOM: usize = 100_000;
+/// The most room that is lent for the octets of a signing line, and for all
+/// replies of a batch.
+const MOST_LONG_ROOM: usize = 100_000;
 /// The most octets of a name that the resolver is given to hold.
 const LONGEST_HELD: usize = 255;
 
+/// What one call comes to.
+type CallResult = Result<Done, Refusal>;
+
 /// Runs a script line by line, from the empty table with clock 0 and a resolver
 /// without a key.
-#[derive(Debug)]
+#[derive(Clone, Debug)]
 pub struct Runner {
     table: Table,
     resolver: Resolver,
@@ -42,7 +47,7 @@ impl Runner {
             table: Table::default(),
             resolver: Resolver::default(),
             line: 0,
-            buffer: vec![0; MOST_SIGNING_ROOM],
+            buffer: vec![0; MOST_LONG_ROOM],
         }
     }
 
@@ -62,14 +67,15 @@ impl Runner {
             return self.too_long(out);
         }
         self.line += 1;
-        // No line has more than eleven words.
-        let words: Vec<&[u8]> = line.splitn(12, |&octet| octet == b' ').collect();
+        let words: Vec<&[u8]> = line.split(|&octet| octet == b' ').collect();
         if line == b"list" {
             print_listing(&self.table, out);
         } else if line == b"keys" {
             print_resolver(&self.resolver, out);
         } else if let Some(result) = self.call(&words) {
             print_result(result, &self.buffer, out);
+        } else if let Some(result) = self.batch(&words) {
+            print_batch(result, &self.buffer, out);
         } else if let Some(result) = self.write_request(&words) {
             print_written(result, &self.buffer, out);
         } else if let Some(result) = self.sign(&words) {
@@ -89,7 +95,7 @@ impl Runner {
 
     /// SCRIPT.md: one call, its words parted by exactly one space. `None` is a
     /// bad line: all words are read before a call is made.
-    fn call(&mut self, words: &[&[u8]]) -> Option<Result<Done, Refusal>> {
+    fn call(&mut self, words: &[&[u8]]) -> Option<CallResult> {
         let table = &mut self.table;
         Some(match *words {
             [b"new", time] => calls::new(number(time)?).map(|new| {
@@ -119,6 +125,17 @@ impl Runner {
             ),
             _ => return None,
         })
+    }
+
+    /// SCRIPT.md, the batch's line: six words for each item.
+    fn batch(&mut self, words: &[&[u8]]) -> Option<Result<Vec<CallResult>, Refusal>> {
+        let [b"batch", room, lent_octets, ref items @ ..] = *words else {
+            return None;
+        };
+        let items: Option<Vec<Item>> = items.chunks(6).map(item).collect();
+        let (items, lent_octets) = (items?, octets(lent_octets)?);
+        let replies = lent(&mut self.buffer, room, MOST_LONG_ROOM)?;
+        Some(batch::batch(&mut self.table, &lent_octets, &items, replies))
     }
 
     /// SCRIPT.md, the resolver's lines: the calls that write a request.
@@ -154,7 +171,7 @@ impl Runner {
         let (call, message, fields, room, mac) = match *words {
             [b"remove", message, room] => {
                 let message = octets(message)?;
-                let buffer = lent(buffer, room, MOST_SIGNING_ROOM)?;
+                let buffer = lent(buffer, room, MOST_LONG_ROOM)?;
                 return Some(signing::remove(&message, buffer));
             }
             [call @ b"digest-request", message, ref fields @ .., room] => {
@@ -178,7 +195,7 @@ impl Runner {
             other_data: &octets(other)?,
         };
         let (message, mac) = (octets(message)?, octets(mac)?);
-        let buffer = lent(buffer, room, MOST_SIGNING_ROOM)?;
+        let buffer = lent(buffer, room, MOST_LONG_ROOM)?;
         Some(match call {
             b"digest-request" => signing::digest_request(&message, &fields, buffer),
             b"digest-reply" => signing::digest_reply(&message, &fields, &mac, buffer),
@@ -270,6 +287,25 @@ fn read_back_line(words: &[&[u8]]) -> Option<Vec<u8>> {
     }
 }
 
+/// SCRIPT.md: an item of a batch, which has exactly six words.
+fn item(words: &[&[u8]]) -> Option<Item> {
+    let [time, verdict, from, size, offer_from, offer_size] = *words else {
+        return None;
+    };
+    Some(Item {
+        time: number(time)?,
+        good: is_good(verdict)?,
+        message: span(from, size)?,
+        offer: span(offer_from, offer_size)?,
+    })
+}
+
+/// SCRIPT.md: first place and size.
+fn span(from: &[u8], size: &[u8]) -> Option<Span> {
+    let (from, size) = (number(from)?, number(size)?);
+    Some(Span { from, size })
+}
+
 /// SECOND.md: the verdict, in lower case only.
 fn is_good(word: &[u8]) -> Option<bool> {
     match word {
@@ -324,7 +360,7 @@ fn print_bad_line(line: u64, out: &mut Vec<u8>) {
 
 /// SCRIPT.md: NUMBER LENGTH TSIGERROR SKEW PAIR SERIAL REPLY PLACE. A refusal
 /// returns its number, FORMAT its place (CR 6), all else 0.
-fn print_result(result: Result<Done, Refusal>, reply: &[u8], out: &mut Vec<u8>) {
+fn print_result(result: CallResult, reply: &[u8], out: &mut Vec<u8>) {
     let number = result.err().map_or(0, Refusal::number);
     let place = result.err().map_or(0, Refusal::place);
     let done = result.unwrap_or_default();
@@ -334,6 +370,19 @@ fn print_result(result: Result<Done, Refusal>, reply: &[u8], out: &mut Vec<u8>) 
     print(out, text);
     print_octets(&reply[..length], out);
     print(out, format_args!(" {place}\n"));
+}
+
+/// SCRIPT.md: NUMBER COUNT, then the items' results. A reply begins where the
+/// one before it ends.
+fn print_batch(result: Result<Vec<CallResult>, Refusal>, replies: &[u8], out: &mut Vec<u8>) {
+    let number = result.as_ref().err().map_or(0, |refusal| refusal.number());
+    let results = result.unwrap_or_default();
+    print(out, format_args!("{number} {}\n", results.len()));
+    let mut rest = replies;
+    for result in results {
+        print_result(result, rest, out);
+        rest = &rest[result.map_or(0, |done| done.length)..];
+    }
 }
 
 /// SCRIPT.md: octets in a result, `-` for none.

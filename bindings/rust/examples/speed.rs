@@ -9,7 +9,7 @@
 #[path = "../tests/support/mod.rs"]
 mod support;
 
-use luffcringle::{Answer, Refusal, Table};
+use luffcringle::{Answer, Item, Refusal, Span, Table};
 use std::hint::black_box;
 use std::path::Path;
 use std::process::Command;
@@ -422,6 +422,83 @@ fn measure_worst() {
     print_row(&what, measure(&table, Call::Message(&message), is_signed));
 }
 
+// ---- The morning queue ----
+
+/// 64 messages, one of each pair, in one batch and in 64 calls, both through C.
+struct Queue {
+    octets: Vec<u8>,
+    items: Vec<Item>,
+}
+
+impl Queue {
+    fn of(messages: impl Iterator<Item = Vec<u8>>) -> Queue {
+        let mut octets = OFFER.to_vec();
+        let items = messages.map(|message| {
+            let from = octets.len();
+            octets.extend(&message);
+            let (message, offer) = (from..octets.len(), 0..OFFER.len());
+            Item {
+                time: NOW,
+                good: true,
+                message: message.into(),
+                offer: offer.into(),
+            }
+        });
+        let items = items.collect();
+        Queue { octets, items }
+    }
+
+    fn at_once(&self, table: &mut Table, replies: &mut [u8]) -> Vec<Result<Answer, Refusal>> {
+        let answers = table.batch(&self.octets, &self.items, replies);
+        answers.expect("a batch of 64 inside its octets")
+    }
+
+    fn one_by_one(&self, table: &mut Table, replies: &mut [u8]) -> Vec<Result<Answer, Refusal>> {
+        let mut used = 0;
+        let part = |span: Span| &self.octets[span.from as usize..(span.from + span.size) as usize];
+        let call = |item: &Item| {
+            let (message, offer) = (part(item.message), part(item.offer));
+            let answer = table.message(item.time, item.good, message, offer, &mut replies[used..]);
+            used += answer.map_or(0, |answer| answer.length as usize);
+            answer
+        };
+        self.items.iter().map(call).collect()
+    }
+
+    /// At once first, then one by one. Both end alike.
+    fn measure(&self, start: &Table) -> Times {
+        let (mut table, mut other) = (start.clone(), start.clone());
+        let (mut replies, mut others) = (vec![0; 65_535], vec![0; 65_535]);
+        let answers = self.at_once(&mut table, &mut replies);
+        assert_eq!(answers, self.one_by_one(&mut other, &mut others));
+        assert!(answers.iter().all(Result::is_ok) && replies == others);
+        assert_eq!(table_of(&table), table_of(&other));
+        in_turns(
+            || {
+                table.clone_from(start);
+                timed(|| self.at_once(&mut table, &mut replies))
+            },
+            || {
+                other.clone_from(start);
+                timed(|| self.one_by_one(&mut other, &mut others))
+            },
+        )
+    }
+}
+
+fn measure_queue() {
+    println!("\n| 64 messages, one of each of 64 pairs | a batch | 64 calls | ratio |");
+    println!("|---|---|---|---|");
+    let suffix = |pair| Differ::Early.suffix(pair);
+    let table = Differ::Early.table(64);
+    let key = |pair| format!("1.{}", suffix(pair));
+    let updates = Queue::of((1..=64).map(|pair| update().signed(&key(pair), NOW)));
+    print_row("ordinary signed updates", updates.measure(&table));
+    let renewals =
+        Queue::of((1..=64).map(|pair| Draft::renewal(&key(pair)).signed(&key(pair), NOW)));
+    print_row("renewals", renewals.measure(&table));
+}
+
 /// For a second, so that the processor runs at its speed.
 fn warm_up() {
     let from = Instant::now();
@@ -442,6 +519,7 @@ fn main() {
     for offices in [Differ::Early, Differ::Late, Differ::Last] {
         measure_calls(offices);
     }
+    measure_queue();
     measure_reading();
     measure_worst();
 }

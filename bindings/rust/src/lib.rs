@@ -1,4 +1,4 @@
-//! Luffcringle's key table and its six calls, safe to use from Rust. The work
+//! Luffcringle's key table and its seven calls, safe to use from Rust. The work
 //! is done by proved code behind the C interface of `include/luffcringle.h`,
 //! which says more about each call than the notes here.
 //!
@@ -9,6 +9,7 @@
 mod view;
 
 use std::fmt;
+use std::ops::Range;
 pub use view::{Key, Keys, Pair, View};
 
 /// The words of a table.
@@ -16,12 +17,16 @@ pub const TABLE_WORDS: usize = 1091;
 /// The octets of a table's suffixes.
 pub const TABLE_OCTETS: usize = 8192;
 
+/// The most items of a batch.
+pub const MOST_ITEMS: usize = 64;
+
 /// A table's words; the header has their layout.
 pub type Words = [u64; TABLE_WORDS];
 /// A table's suffixes, 128 octets for each place.
 pub type Octets = [u8; TABLE_OCTETS];
 
 type Told = [u64; 7];
+type ItemWords = [u64; 6];
 
 // A reference to an array is what C calls a pointer to its first word.
 extern "C" {
@@ -77,6 +82,17 @@ extern "C" {
         reply_room: usize,
         answer: &mut Told,
     ) -> u64;
+    fn luffcringle_batch(
+        words: &mut Words,
+        suffixes: &Octets,
+        count: u64,
+        items: &[ItemWords; MOST_ITEMS],
+        octets: *const u8,
+        octets_length: usize,
+        answers: &mut [Told; MOST_ITEMS],
+        replies: *mut u8,
+        replies_room: usize,
+    ) -> u64;
 }
 
 /// Why a call was refused.
@@ -117,11 +133,12 @@ pub enum Refusal {
     Twin,
     /// 64 pairs are enrolled.
     Full,
+    /// A batch has more than 64 items, or one outside the lent octets.
+    Batch,
 }
 
 impl Refusal {
-    /// In the order of their numbers, from 1.
-    fn all(place: usize) -> [Refusal; 15] {
+    fn all(place: usize) -> [Refusal; 16] {
         [
             Refusal::Table,
             Refusal::Time,
@@ -138,15 +155,37 @@ impl Refusal {
             Refusal::Term,
             Refusal::Twin,
             Refusal::Full,
+            Refusal::Batch,
         ]
     }
 
-    /// Its number in document 01, 1 to 15.
+    /// The refusal with this number.
+    fn of(number: u64, place: usize) -> Refusal {
+        let mut all = Refusal::all(place).into_iter();
+        let found = all.find(|refusal| refusal.number() == number);
+        found.expect("the number of a refusal")
+    }
+
+    /// Its number in document 01, 1 to 15; a batch's is 17.
     pub fn number(self) -> u64 {
-        let before = Refusal::all(self.place())
-            .into_iter()
-            .take_while(|refusal| *refusal != self);
-        1 + before.count() as u64
+        match self {
+            Refusal::Table => 1,
+            Refusal::Time => 2,
+            Refusal::Clock => 3,
+            Refusal::Size => 4,
+            Refusal::Offer => 5,
+            Refusal::Format { .. } => 6,
+            Refusal::NotQuery => 7,
+            Refusal::Room => 8,
+            Refusal::NoPair => 9,
+            Refusal::NoKey => 10,
+            Refusal::Spent => 11,
+            Refusal::Name => 12,
+            Refusal::Term => 13,
+            Refusal::Twin => 14,
+            Refusal::Full => 15,
+            Refusal::Batch => 17,
+        }
     }
 
     /// Where reading the message failed, of `Format`; else 0.
@@ -183,6 +222,52 @@ pub struct Answer {
     pub pair: u64,
     /// That key's serial, or 0.
     pub serial: u64,
+}
+
+/// Where octets of an item stand among those lent to a batch. A range becomes
+/// one: `(12..40).into()`.
+#[derive(Clone, Copy, Debug, Default, PartialEq, Eq, Hash)]
+pub struct Span {
+    /// The first place, from 0.
+    pub from: u64,
+    /// The count of octets.
+    pub size: u64,
+}
+
+impl From<Range<usize>> for Span {
+    /// A range that ends before its start has no octets, like every empty one.
+    fn from(range: Range<usize>) -> Span {
+        Span {
+            from: range.start as u64,
+            size: range.len() as u64,
+        }
+    }
+}
+
+/// One message of a batch: what `Table::message` takes beside the room.
+#[derive(Clone, Copy, Debug, Default, PartialEq, Eq, Hash)]
+pub struct Item {
+    /// The time of this message.
+    pub time: u64,
+    /// The verdict on its MAC.
+    pub good: bool,
+    /// Where the message stands.
+    pub message: Span,
+    /// Where the key data for a renewal stands.
+    pub offer: Span,
+}
+
+impl Item {
+    fn words(&self) -> ItemWords {
+        [
+            self.time,
+            u64::from(self.good),
+            self.message.from,
+            self.message.size,
+            self.offer.from,
+            self.offer.size,
+        ]
+    }
 }
 
 /// As `struct luffcringle_table` in C.
@@ -360,6 +445,50 @@ impl Table {
         };
         told(number, answer)
     }
+
+    /// Batch: up to 64 messages in one call, in order, each as `message` would
+    /// take it at its own time. `octets` hold all messages and offers; items
+    /// may share them.
+    ///
+    /// The replies lie one after another in `replies`, each as long as its
+    /// item's answer says. An item is lent the room that is left, and a refused
+    /// one takes none. With `Table`, or with `Batch` for more than 64 items or
+    /// one outside `octets`, the whole is refused: no item is judged, and table
+    /// and replies stay, the clock too.
+    pub fn batch(
+        &mut self,
+        octets: &[u8],
+        items: &[Item],
+        replies: &mut [u8],
+    ) -> Result<Vec<Result<Answer, Refusal>>, Refusal> {
+        let Lent { words, suffixes } = &mut *self.lent;
+        let mut lent_items = [ItemWords::default(); MOST_ITEMS];
+        // Of more than 64 the count alone is told: none of them is judged.
+        for (lent, item) in lent_items.iter_mut().zip(items) {
+            *lent = item.words();
+        }
+        let mut answers = [Told::default(); MOST_ITEMS];
+        // SAFETY: octets and replies are as long as told, and replies is
+        // borrowed alone.
+        let number = unsafe {
+            luffcringle_batch(
+                words,
+                suffixes,
+                items.len() as u64,
+                &lent_items,
+                octets.as_ptr(),
+                octets.len(),
+                &mut answers,
+                replies.as_mut_ptr(),
+                replies.len(),
+            )
+        };
+        if number != 0 {
+            return Err(Refusal::of(number, 0));
+        }
+        let answers = answers[..items.len()].iter();
+        Ok(answers.map(|answer| told(answer[0], *answer)).collect())
+    }
 }
 
 /// What a call returned and the words of its answer, whose first is the same.
@@ -367,7 +496,7 @@ fn told(number: u64, answer: Told) -> Result<Answer, Refusal> {
     let [same_number, length, error, skew, pair, serial, place] = answer;
     debug_assert_eq!(number, same_number);
     if number != 0 {
-        return Err(Refusal::all(place as usize)[number as usize - 1]);
+        return Err(Refusal::of(number, place as usize));
     }
     Ok(Answer {
         length: length as usize,

@@ -3,7 +3,8 @@
 
 mod support;
 
-use luffcringle::{Answer, Key, Keys, Octets, Refusal, Table, Words, TABLE_OCTETS, TABLE_WORDS};
+use luffcringle::{Answer, Item, Key, Keys, Octets, Refusal, Span, Table, Words};
+use luffcringle::{MOST_ITEMS, TABLE_OCTETS, TABLE_WORDS};
 use support::build::{name, Draft, FILL};
 use support::*;
 
@@ -74,12 +75,22 @@ fn offices(count: u64) -> Table {
     table
 }
 
+/// An item of a batch that is lent one message alone, and no offer.
+fn whole(message: &[u8]) -> Item {
+    Item {
+        time: 1001,
+        good: true,
+        message: (0..message.len()).into(),
+        offer: Span::default(),
+    }
+}
+
 /// Both hold the same words and octets.
 fn is_left(before: &Table, after: &Table) -> bool {
     before.parts() == after.parts()
 }
 
-/// All five calls that read a table refuse it with TABLE, and change nothing.
+/// All six calls that read a table refuse it with TABLE, and change nothing.
 fn refused_by_all(table: &Table, what: &str) {
     let message = Draft::ordinary().signed("1.a.example.", 1000);
     let mut lent = table.clone();
@@ -92,6 +103,11 @@ fn refused_by_all(table: &Table, what: &str) {
         lent.message(1001, true, &message, &[5], &mut reply),
     ];
     assert_eq!(refused, [Err(Refusal::Table); 5], "{what}");
+    // Before BATCH, and where there is nothing to do.
+    for items in [&[][..], &[whole(&message); 64], &[whole(&message); 65]] {
+        let refused = lent.batch(&message, items, &mut reply);
+        assert_eq!(refused, Err(Refusal::Table), "{what}");
+    }
     assert!(is_left(table, &lent), "{what}");
     assert_eq!(reply, [FILL; 512], "{what}");
 }
@@ -412,6 +428,8 @@ fn a_refusal_has_its_number_and_its_place() {
     assert_eq!((Refusal::Table.number(), Refusal::Table.place()), (1, 0));
     assert_eq!((Refusal::Full.number(), Refusal::Full.place()), (15, 0));
     assert_eq!(Refusal::Full.to_string(), "refused with 15 (Full)");
+    assert_eq!((Refusal::Batch.number(), Refusal::Batch.place()), (17, 0));
+    assert_eq!(Refusal::Batch.to_string(), "refused with 17 (Batch)");
 }
 
 #[test]
@@ -483,6 +501,179 @@ fn a_call_changes_its_own_pair_alone() {
     }
 }
 
+// ---- Batches ----
+
+/// A batch refused whole leaves every word, the clock's too, and every reply.
+fn refused_whole(octets: &[u8], items: &[Item]) {
+    let clean = with_waiting_key();
+    for before in [with_junk(&clean, &mut Random(9)), clean] {
+        let mut table = before.clone();
+        let mut replies = [FILL; 200];
+        let refused = table.batch(octets, items, &mut replies);
+        assert_eq!(refused, Err(Refusal::Batch));
+        assert_eq!(replies, [FILL; 200]);
+        assert!(is_left(&before, &table));
+    }
+}
+
+#[test]
+fn a_batch_refused_whole_leaves_all() {
+    let message = Draft::ordinary().signed("1.a.example.", 1001);
+    let (item, end) = (whole(&message), message.len() as u64);
+    for count in [65, 66, 128, 1000] {
+        refused_whole(&message, &vec![item; count]);
+    }
+    let most = u64::MAX;
+    let outside = [
+        (0, end + 1),
+        (end, 1),
+        (end + 1, 0),
+        (most, 0),
+        (0, most),
+        // Sums of 2^64 and a little more.
+        (1, most),
+        (most, 1),
+        (most, end + 1),
+        (most, most),
+        (1 << 32, end),
+    ];
+    for (from, size) in outside {
+        let span = Span { from, size };
+        for place in [0, 1, 63] {
+            let mut items = [item; MOST_ITEMS];
+            items[place].message = span;
+            refused_whole(&message, &items);
+            items[place].message = item.message;
+            items[place].offer = span;
+            refused_whole(&message, &items);
+        }
+    }
+}
+
+/// Offices as they are, each with messages of its own: the answers, the replies
+/// and the table are those of one call after another.
+#[test]
+fn a_batch_is_its_messages_one_by_one() {
+    let clean = offices(64);
+    let mut octets = Vec::new();
+    let mut lay = |part: &[u8]| -> Span {
+        octets.extend_from_slice(part);
+        (octets.len() - part.len()..octets.len()).into()
+    };
+    let mut items = Vec::new();
+    for turn in 0..MOST_ITEMS as u64 {
+        let key = format!("1.{}", office(1 + turn * 5 % 64));
+        let draft = match turn % 4 {
+            0 => Draft::ordinary(),
+            1 => Draft::deletion(&key),
+            _ => Draft::renewal(&key),
+        };
+        let mut message = draft.signed(&key, 1001);
+        // Some have an octet too much.
+        message.extend(vec![0; usize::from(turn % 7 == 6)]);
+        items.push(Item {
+            time: 1001 + turn / 8 - turn % 9 / 8,
+            good: turn % 5 != 4,
+            message: lay(&message),
+            offer: lay(&[turn as u8; 3]),
+        });
+    }
+    let part = |span: Span| &octets[span.from as usize..][..span.size as usize];
+    for room in [0, 100, 1000, 4000, 20_000] {
+        for before in [with_junk(&clean, &mut Random(10)), clean.clone()] {
+            let (mut table, mut by_one) = (before.clone(), before);
+            let (mut replies, mut expected) = (vec![FILL; room], vec![FILL; room]);
+            let answers = table.batch(&octets, &items, &mut replies).expect("done");
+            assert_eq!(answers.len(), items.len());
+            let mut left = &mut expected[..];
+            for (item, answer) in items.iter().zip(answers) {
+                let (message, offer) = (part(item.message), part(item.offer));
+                let one = by_one.message(item.time, item.good, message, offer, left);
+                assert_eq!(answer, one);
+                left = &mut left[one.map_or(0, |answer| answer.length)..];
+            }
+            assert_eq!(replies, expected);
+            assert_eq!(table.view(), by_one.view());
+        }
+    }
+}
+
+extern "C" {
+    fn luffcringle_batch(
+        words: &mut Words,
+        suffixes: &Octets,
+        count: u64,
+        items: &[[u64; 6]; 64],
+        octets: *const u8,
+        octets_length: usize,
+        answers: &mut [[u64; 7]; 64],
+        replies: *mut u8,
+        replies_room: usize,
+    ) -> u64;
+}
+
+/// The call as C has it: its number, the first item's answer, and the table.
+fn batch_by_words(
+    table: &Table,
+    count: u64,
+    items: &[[u64; 6]; 64],
+    octets: &[u8],
+) -> (u64, [u64; 7], Table) {
+    let (mut words, suffixes) = (*table.parts().0, table.parts().1);
+    let (mut answers, mut replies) = ([[0; 7]; 64], [FILL; 100]);
+    // SAFETY: octets and replies are as long as told, and nothing overlaps.
+    let number = unsafe {
+        luffcringle_batch(
+            &mut words,
+            suffixes,
+            count,
+            items,
+            octets.as_ptr(),
+            octets.len(),
+            &mut answers,
+            replies.as_mut_ptr(),
+            replies.len(),
+        )
+    };
+    (number, answers[0], Table::from_parts(&words, suffixes))
+}
+
+/// Words that the wrapper does not pass: any verdict, any count, and anything
+/// behind the count.
+#[test]
+fn any_words_of_items() {
+    let message = Draft::ordinary().signed("1.a.example.", 1001);
+    let item = |verdict: u64| [1001, verdict, 0, message.len() as u64, 0, 0];
+    let mut items = [[u64::MAX; 6]; 64];
+    let large = [255, 256, 257, 1 << 32, (1 << 32) + 1, 1 << 63, u64::MAX];
+    for verdict in [0, 1, 2, 3].into_iter().chain(large) {
+        items[0] = item(verdict);
+        let (number, answer, after) = batch_by_words(&day(), 1, &items, &message);
+        let error = if verdict == 1 { 0 } else { 16 };
+        assert_eq!((number, answer[0], answer[2]), (0, 0, error), "{verdict}");
+        assert_eq!((answer[4], answer[5]), (1, 1), "{verdict}");
+        assert_eq!(after.parts().0[CLOCK], 1001);
+    }
+    // Some wrap to a small count when they are multiplied by six or by eight.
+    let items = [item(1); 64];
+    let wrapping = [1 << 61, (1 << 61) + 1, 1 << 62, u64::MAX / 6 + 1];
+    for count in [65, 66].into_iter().chain(large).chain(wrapping) {
+        let (number, _, after) = batch_by_words(&day(), count, &items, &message);
+        assert_eq!(number, 17, "{count}");
+        assert!(is_left(&day(), &after), "{count}");
+    }
+}
+
+#[test]
+fn a_range_becomes_a_span() {
+    let span = |from: u64, size: u64| Span { from, size };
+    assert_eq!(Span::from(0..0), span(0, 0));
+    assert_eq!(Span::from(12..40), span(12, 28));
+    assert_eq!(Span::from(usize::MAX..usize::MAX), span(u64::MAX, 0));
+    let (start, end) = (40, 12);
+    assert_eq!(Span::from(start..end), span(40, 0));
+}
+
 // ---- What has no meaning ----
 
 /// Junk changes no answer, and stays where no call of its own pair writes it.
@@ -492,12 +683,13 @@ fn junk_changes_nothing_and_stays() {
     let message = Draft::ordinary().signed(&format!("1.{}", office(2)), 1001);
     let lone = name("lone.example.");
     type Call<'a> = &'a dyn Fn(&mut Table, &mut [u8]) -> Result<Answer, Refusal>;
-    let calls: [Call; 6] = [
+    let calls: [Call; 7] = [
         &|t, _| t.enrol(1001, &lone, 600, 400, 256),
         &|t, _| t.issue(1001, 4, 512),
         &|t, _| t.revoke(1001, 3),
         &|t, _| t.look(&message),
         &|t, r| t.message(1001, true, &message, &[5], r),
+        &|t, r| t.batch(&message, &[whole(&message); 9], r)?[8],
         &|t, _| t.clear(1001),
     ];
     for (seed, call) in (0..).zip(calls.iter().cycle()).take(600) {

@@ -3,7 +3,7 @@
 
 mod support;
 
-use luffcringle::{Answer, Refusal, Table};
+use luffcringle::{Answer, Item, Refusal, Span, Table};
 use std::fmt::Write;
 use std::path::{Path, PathBuf};
 use support::{changed, row, row_of, table_of, with_junk, Random};
@@ -11,6 +11,11 @@ use support::{CLOCK, COUNT, LIFETIME, MAP, ROW_WORDS};
 
 const LONGEST_LINE: usize = 200_000;
 const MOST_ROOM: usize = 65_535;
+/// For all replies of a batch.
+const MOST_BATCH_ROOM: usize = 100_000;
+
+/// What one call comes to.
+type CallResult = Result<Answer, Refusal>;
 
 /// A run through the wrapper. With junk, what has no meaning holds something
 /// else before every line.
@@ -27,7 +32,7 @@ impl Runner {
             table: Table::new(0).expect("0 is a time"),
             junk,
             line: 0,
-            reply: vec![0; MOST_ROOM],
+            reply: vec![0; MOST_BATCH_ROOM],
         }
     }
 
@@ -41,21 +46,26 @@ impl Runner {
             return listing(&self.table);
         }
         let before = self.table.clone();
-        let fits = line.len() <= LONGEST_LINE;
-        let result = fits.then(|| self.call(line)).flatten();
+        let words = match std::str::from_utf8(line) {
+            Ok(text) if line.len() <= LONGEST_LINE => text.split(' ').collect(),
+            _ => Vec::new(),
+        };
+        if let Some(result) = self.batch(&words) {
+            check_batch_kept(self.line, &before, &self.table, &result);
+            return printed_batch(result, &self.reply);
+        }
+        let result = self.call(&words);
         check_kept(self.line, line, &before, &self.table, result);
         match result {
-            Some(result) => self.printed(result),
+            Some(result) => printed(result, &self.reply),
             None => format!("bad line {}\n", self.line),
         }
     }
 
     /// `None` is a bad line: all words are read before a call is made.
-    fn call(&mut self, line: &[u8]) -> Option<Result<Answer, Refusal>> {
-        let line = std::str::from_utf8(line).ok()?;
-        let words: Vec<&str> = line.split(' ').collect();
+    fn call(&mut self, words: &[&str]) -> Option<CallResult> {
         let table = &mut self.table;
-        Some(match words[..] {
+        Some(match *words {
             ["new", time] => table.clear(number(time)?),
             ["enrol", time, suffix, lifetime, fresh, algorithm] => table.enrol(
                 number(time)?,
@@ -80,29 +90,64 @@ impl Runner {
         })
     }
 
-    fn printed(&self, result: Result<Answer, Refusal>) -> String {
-        let number = result.err().map_or(0, Refusal::number);
-        let place = result.err().map_or(0, Refusal::place);
-        let answer = result.unwrap_or_default();
-        let reply = match answer.length {
-            0 => "-".to_string(),
-            length => hex(&self.reply[..length]),
+    /// The line of a batch, six words for each item.
+    fn batch(&mut self, words: &[&str]) -> Option<Result<Vec<CallResult>, Refusal>> {
+        let ["batch", room, lent, ref items @ ..] = *words else {
+            return None;
         };
-        let (length, error, skew) = (answer.length, answer.error, answer.skew);
-        let (pair, serial) = (answer.pair, answer.serial);
-        format!("{number} {length} {error} {skew} {pair} {serial} {reply} {place}\n")
+        let items: Option<Vec<Item>> = items.chunks(6).map(item).collect();
+        let room = number(room)?.min(MOST_BATCH_ROOM as u64) as usize;
+        let (lent, replies) = (octets(lent)?, &mut self.reply[..room]);
+        Some(self.table.batch(&lent, &items?, replies))
     }
+}
+
+fn item(words: &[&str]) -> Option<Item> {
+    let [time, verdict, from, size, offer_from, offer_size] = *words else {
+        return None;
+    };
+    Some(Item {
+        time: number(time)?,
+        good: is_good(verdict)?,
+        message: span(from, size)?,
+        offer: span(offer_from, offer_size)?,
+    })
+}
+
+fn span(from: &str, size: &str) -> Option<Span> {
+    let (from, size) = (number(from)?, number(size)?);
+    Some(Span { from, size })
+}
+
+fn printed(result: CallResult, reply: &[u8]) -> String {
+    let number = result.err().map_or(0, Refusal::number);
+    let place = result.err().map_or(0, Refusal::place);
+    let answer = result.unwrap_or_default();
+    let reply = match answer.length {
+        0 => "-".to_string(),
+        length => hex(&reply[..length]),
+    };
+    let (length, error, skew) = (answer.length, answer.error, answer.skew);
+    let (pair, serial) = (answer.pair, answer.serial);
+    format!("{number} {length} {error} {skew} {pair} {serial} {reply} {place}\n")
+}
+
+/// A reply begins where the one before it ends.
+fn printed_batch(result: Result<Vec<CallResult>, Refusal>, replies: &[u8]) -> String {
+    let number = result.as_ref().err().map_or(0, |refusal| refusal.number());
+    let results = result.unwrap_or_default();
+    let mut text = format!("{number} {}\n", results.len());
+    let mut rest = replies;
+    for result in results {
+        text += &printed(result, rest);
+        rest = &rest[result.map_or(0, |answer| answer.length)..];
+    }
+    text
 }
 
 /// A line leaves what it may not change: TABLE all, another refusal all but the
 /// clock, and a call that is done all but the clock and its own words.
-fn check_kept(
-    at: u64,
-    line: &[u8],
-    before: &Table,
-    after: &Table,
-    result: Option<Result<Answer, Refusal>>,
-) {
+fn check_kept(at: u64, line: &[u8], before: &Table, after: &Table, result: Option<CallResult>) {
     let call = line.split(|&octet| octet == b' ').next();
     let enrolled = match (call, result) {
         (Some(b"enrol"), Some(Ok(answer))) => answer.pair as usize,
@@ -121,6 +166,28 @@ fn check_kept(
                     || (row(0)..row(enrolled)).contains(&word)
             }
             (_, Some(Ok(answer))) => word == CLOCK || is_of_pair(before, answer.pair, word),
+        };
+        assert!(is_own, "line {at}: word {word}");
+    }
+}
+
+/// A batch that is refused whole leaves all; another changes the clock and what
+/// its items may change.
+fn check_batch_kept(
+    at: u64,
+    before: &Table,
+    after: &Table,
+    result: &Result<Vec<CallResult>, Refusal>,
+) {
+    assert!(before.parts().1 == after.parts().1, "line {at}: octets");
+    let items = result.as_deref().unwrap_or_default();
+    for word in changed(before, after) {
+        let is_own = match word {
+            CLOCK => !items.is_empty(),
+            _ => {
+                let mut done = items.iter().flatten();
+                done.any(|answer| is_of_pair(before, answer.pair, word))
+            }
         };
         assert!(is_own, "line {at}: word {word}");
     }
@@ -234,4 +301,5 @@ fn lines_that_do_not_read() {
     let longest = [b"look ".as_slice(), &[b'0'; LONGEST_LINE - 4]].concat();
     agree(&longest);
     agree(&longest[..LONGEST_LINE - 1]);
+    agree(b"batch 9\nbatch 9 - \nbatch 9 - 5 good 0 0 0\nbatch 9 - 5 good 0 0 0 0 5\nbatch 9 - 5 Good 0 0 0 0\nbatch 9 - 5 good 0 0 0 -\nbatch 9 -");
 }

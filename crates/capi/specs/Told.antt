@@ -1,24 +1,15 @@
 -- What a call for C leaves: the words of its answer, the number that it returns, and the lent table. Assumes nothing.
-use Prim.Native.Nat.{ℕ, suc, _-_, _^_}
-use mathlib.Core.List.{List, [], _∷_}
+use Prim.Native.Nat.{ℕ}
+use mathlib.Core.List.{List}
 use mathlib.Core.Option.{Option}
 use mathlib.Core.Path.{_≡_}
-use lib.IntN.{ℤ, pos, negsuc}
 use lib.ListN.{drop}
 use Rattle.model.specs.declared.Answer.{Answer}
 use Rattle.model.specs.Tables.{Table}
 use Rattle.model.specs.Calls.{DONE, TABLE, Result, newTable, bufferAfter}
 use Rattle.store.specs.Layout.{tableOf}
+use Rattle.results.specs.Words.{answerWords}
 use Rattle.server.specs.Serve.{OwnOf}
-
--- A signed number in 64 bits, in two's complement. (`negsuc n` is - n - 1.)
-unfoldable pub twosComplement : ℤ → ℕ
-twosComplement (pos n) = n
-twosComplement (negsuc n) = 2 ^ 64 - suc n
-
--- An answer in seven words.
-unfoldable pub answerWords : Answer → List ℕ
-answerWords a = a .number ∷ a .length ∷ a .error ∷ twosComplement (a .skew) ∷ a .pair ∷ a .serial ∷ a .place ∷ []
 
 -- The answer a is told: its words are written, and its number is returned.
 pub record Told (a : Answer) (words : List ℕ) (r : ℕ) : Type 0 where

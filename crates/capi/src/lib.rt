@@ -1,7 +1,7 @@
 // The public calls on a lent table, for C and Rust to link: numbers, lent arrays and lent slices alone. include/luffcringle.h declares them. Each takes every
-// value of every argument, writes its answer in seven words (number, length, TSIG error, skew, pair, serial, place) and returns the number. The table lies in 1091 words
-// and 8192 octets (store/specs/Layout.antt); where they hold none, every call but a new table is TABLE (1). TABLE changes nothing of what is lent; every other
-// refusal sets at most the clock.
+// value of every argument, writes its answer in seven words (number, length, TSIG error, skew, pair, serial, place; a batch writes its items') and returns the
+// number. The table lies in 1091 words and 8192 octets (store/specs/Layout.antt); where they hold none, every call but a new table is TABLE (1). TABLE changes
+// nothing of what is lent; every other refusal sets at most the clock.
 use model::Answer;
 ghost use mathlib.Core.Path.{_≡_};
 ghost use Prim.Native.Nat.{_-_};
@@ -9,25 +9,16 @@ ghost use lib.ListN.{length};
 ghost use Rattle.model.specs.Tables.{namesOf};
 ghost use Rattle.model.specs.Calls.{enrolOn, issueOn, revokeOn, lookOn, messageOn, octetsOwner};
 ghost use Rattle.store.specs.Layout.{tableOf};
+ghost use Rattle.batches.specs.Batched.{itemsIn, BatchShows};
 ghost use Rattle.outcomes.specs.Ends.{Own};
-ghost use Rattle.capi.specs.Told.{twosComplement, Told, Lent, NewLent, MessageLent};
+ghost use Rattle.capi.specs.Told.{Told, Lent, NewLent, MessageLent};
 
 // ── Answers ─────────────────────────────────────────────────────────────────────────────────────────────────────────
-
-// In two's complement.
-fn skew_word(skew: i64) -> u64
-    ensures { λ r. ⌜ r ≡ twosComplement skew ⌝ }
-{
-    if 0 <= skew {
-        return skew as u64;
-    }
-    0xffff_ffff_ffff_ffff - (-1 - skew) as u64
-}
 
 fn tell(answer: &mut [u64; 7], a: Answer) -> u64
     ensures { λ r. ⌜ Told a (now (answer .exit)) r ⌝ }
 {
-    let skew = skew_word(a.skew);
+    let skew = results::skew_word(a.skew);
     *answer = [a.number, a.length, a.error, skew, a.pair, a.serial, a.place];
     a.number
 }
@@ -146,4 +137,31 @@ pub extern "C" fn luffcringle_message<'a>(
         reply,
     );
     tell(answer, a)
+}
+
+// Batch: the message calls of the first `count` items, up to 64, in turn. Refused whole, in this order, with TABLE (1), BATCH (17): then nothing that is lent
+// changes. Each item's answer stands in seven words of `answers`, and the replies one after another in the first octets of `replies`. Returns 0 where it is done,
+// whatever its items' answers are.
+#[no_mangle]
+pub extern "C" fn luffcringle_batch(
+    words: &mut [u64; 1091],
+    suffixes: &[u8; 8192],
+    count: u64,
+    items: &[u64; 384],
+    octets: &[u8],
+    answers: &mut [u64; 448],
+    replies: &mut [u8],
+) -> u64
+    ensures { λ r. ⌜ BatchShows (now (octets .entry)) (itemsIn (now (items .entry)) count)
+        (now (words .entry)) (now (suffixes .entry)) (now (words .exit)) (now (answers .entry)) (now (answers .exit)) (now (replies .entry)) (now (replies .exit)) r ⌝ }
+{
+    batches::batch(
+        &mut words[..],
+        &suffixes[..],
+        count,
+        items,
+        octets,
+        answers,
+        replies,
+    )
 }

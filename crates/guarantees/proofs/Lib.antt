@@ -8,5 +8,6 @@ pub mod Enrolment
 pub mod Freshness
 pub mod Refusals
 pub mod Gone
+pub mod Batches
 pub mod Orders
 pub mod Promises

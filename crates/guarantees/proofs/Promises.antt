@@ -1,29 +1,32 @@
 -- The promises are kept. Assumes nothing.
 use mathlib.Core.Path.{_≡_, refl, sym, ap, _∙_}
 use mathlib.Core.Logic.{inl}
-use mathlib.Core.List.{List, [], _∷_}
+use mathlib.Core.List.{List, [], _∷_, map}
 use Prim.Native.Nat.{ℕ}
 use native.Mathlib.Omega.{arith}
 use Rattle.model.specs.declared.Algorithm.the-variants.{Sha256}
 use Rattle.model.specs.declared.Keys.{Keys}
 use Rattle.model.specs.declared.Keys.the-variants.{Empty, Adopted, Renewing}
 use Rattle.model.specs.Names.{keyName}
-use Rattle.model.specs.Tables.{Table, pairAt}
+use Rattle.model.specs.Tables.{Table, pairAt, tableRules}
 use Rattle.model.specs.Calls.{Outcome, Call, issue, revoke}
 use Rattle.model.specs.Runs.{call, final, log, NeverBack, frameOf, ownLog, own}
+use Rattle.model.specs.Batches.{Job, batch, callsOf, allCalls, Roomy, doneJob, jobLog, inside, batchOk, itemCall, refusedWhole, inTurn, batchOn}
 use Rattle.model.proofs.Running.{after}
 use Rattle.model.proofs.Requests.{suffix, ordinary}
 use Rattle.model.proofs.Day.{opening, first as first-key, day}
 use Rattle.guarantees.specs.Freshness.{after as run}
 use Rattle.guarantees.specs.Gone.{Goes}
 use Rattle.guarantees.specs.Isolation.{AtAnyTimes, InAnyOrder}
-use Rattle.guarantees.specs.Sample.{table, calls}
+use Rattle.guarantees.specs.Batches.{endsOf, outcomesIn, AtAnyRoom}
+use Rattle.guarantees.specs.Sample.{table, calls, unknown, lent, items}
 use Rattle.guarantees.specs.Promises.{numbers, Promises}
 use Rattle.guarantees.proofs.Orders.{never-back, swapped}
 use Rattle.guarantees.proofs.Refusals.{demand1}
 use Rattle.guarantees.proofs.Freshness.{last-rules, demand2}
 use Rattle.guarantees.proofs.Gone.{signed-with, demand8}
 use Rattle.guarantees.proofs.Runs.{demand3}
+use Rattle.guarantees.proofs.Batches.{batches-safe, demand3-batches}
 
 times : NeverBack calls
 unfolding calls after
@@ -97,15 +100,54 @@ key-goes : Goes (run 1000 opening) (call (issue 1200 1 256)) suffix first-key
 unfolding opening after
 key-goes = demand8 .ways (run 1000 opening) 0 first-key (last-rules 1000 opening) .replaced 1200 1 256 refl refl refl (inl refl)
 
+-- ── Room for one reply alone ────────────────────────────────────────────────────────────────────────────────────────
+
+abbrev jobs : List Job
+jobs = batch lent items 128 ∷ []
+
+batch-times : NeverBack (allCalls (tableRules table) jobs)
+unfolding table unknown lent items after itemCall batchOk inside callsOf
+batch-times = never-back (allCalls (tableRules table) jobs) refl
+
+abbrev exact : List Job
+exact = batch lent items 129 ∷ []
+
+exact-times : NeverBack (allCalls (tableRules table) exact)
+unfolding table unknown lent items after itemCall batchOk inside callsOf
+exact-times = never-back (allCalls (tableRules table) exact) refl
+
+exact-roomy : Roomy table exact
+unfolding table unknown lent items after itemCall batchOk inside callsOf
+exact-roomy = (omega arith, tt)
+
+abbrev second : List Outcome → ℕ
+second [] = 0
+second (o ∷ os) = first (map (λ (o : Outcome). o .answer .number) os)
+
+no-room-there : second (outcomesIn (jobLog table jobs)) ≡ 8
+unfolding table unknown lent items after doneJob batchOn inTurn itemCall batchOk inside refusedWhole
+no-room-there = refl
+
+done-in-the-whole : second (endsOf (log table (allCalls (tableRules table) jobs))) ≡ 0
+unfolding table unknown lent items after itemCall batchOk inside callsOf
+done-in-the-whole = refl
+
+room-needed : ¬ AtAnyRoom
+room-needed claim =
+    let e : _≡_ {A = ℕ} 8 0 = sym no-room-there ∙ ap second (claim table jobs batch-times .same-outcomes) ∙ done-in-the-whole in
+    absurd (omega arith)
+
 -- ── The whole ───────────────────────────────────────────────────────────────────────────────────────────────────────
 
 pub promises : Promises
-unfolding table calls after
+unfolding table calls unknown lent items after batchOn inTurn itemCall batchOk inside refusedWhole
 promises = record {
   refusals = demand1;
   names = demand2;
   gone = demand8;
   isolation = demand3;
+  batches-safe = batches-safe;
+  batches = demand3-batches;
   day = day;
   sample-times = times;
   sample-numbers = refl;
@@ -114,4 +156,9 @@ promises = record {
   sample-signed = signed-with (ordinary 1 1250) (keyName 1 suffix) Sha256 refl;
   needs-times = times-needed;
   needs-order = order-needed;
+  sample-batch = refl;
+  sample-roomy = exact-roomy;
+  sample-batch-times = exact-times;
+  sample-room = refl;
+  needs-room = room-needed;
 }

@@ -198,7 +198,7 @@ step-fits h g room octets =
     none-fits : (n : ℕ) → F (refuses h n)
     none-fits n = omega arith
 
-message-fits : (t : Table) (time : ℕ) (good : Bool) (offer : List ℕ) (room : ℕ) (octets : List ℕ) → length (called t (message time good offer room octets) .outcome .reply) ≤ room
+pub message-fits : (t : Table) (time : ℕ) (good : Bool) (offer : List ℕ) (room : ℕ) (octets : List ℕ) → length (called t (message time good offer room octets) .outcome .reply) ≤ room
 unfolding unchanged refusal refusalAt stepOf timeOf
 message-fits t time good offer room octets = go (gate t (some time)) refl
   where

@@ -1,5 +1,5 @@
 -- What is promised to the user, in one place. The proof is `promises` of proofs/Promises. What ties it to code are the contracts of the calls on a lent table
--- (operator, looking, server): each is an equation with one of these definitions, on the table that the lent words and octets show. Assumes
+-- (operator, looking, server, batches): each is an equation with one of these definitions, on the table that the lent words and octets show. Assumes
 -- nothing.
 use mathlib.Core.Path.{_≡_}
 use mathlib.Core.Option.{none, some}
@@ -9,17 +9,23 @@ use Rattle.model.specs.declared.Algorithm.the-variants.{Sha256}
 use Rattle.model.specs.Names.{keyName}
 use Rattle.model.specs.Calls.{Outcome, Call, issue}
 use Rattle.model.specs.Runs.{call, log, NeverBack, frameOf, belongs}
+use Rattle.model.specs.Tables.{tableRules}
+use Rattle.model.specs.Batches.{Batched, batchOn, batch, allCalls, Roomy}
 use Rattle.guarantees.specs.Refusals.{Demand1}
 use Rattle.guarantees.specs.Freshness.{after, Demand2}
 use Rattle.guarantees.specs.Gone.{Goes, SignedWith, Demand8}
 use Rattle.guarantees.specs.Isolation.{Demand3, AtAnyTimes, InAnyOrder}
-use Rattle.guarantees.specs.Sample.{table, calls}
+use Rattle.guarantees.specs.Batches.{BatchesSafe, Demand3Batches, AtAnyRoom}
+use Rattle.guarantees.specs.Sample.{table, calls, lent, items}
 use Rattle.model.proofs.Requests.{suffix, ordinary}
 use Rattle.model.proofs.Day.{cases, All, opening, first}
 
 -- The numbers that the calls of a run end with.
 abbrev pub numbers : List (Call × Outcome) → List ℕ
 numbers l = map (λ x. x .1 .answer .number) l
+
+abbrev pub batchNumbers : Batched → List ℕ
+batchNumbers r = map (λ (o : Outcome). o .answer .number) (r .outcomes)
 
 pub record Promises : Type 0 where
   -- each call ends with an answer or a refusal of its list, and a refusal changes nothing but, where the paper says so, the clock
@@ -30,6 +36,10 @@ pub record Promises : Type 0 where
   pub gone : Demand8
   -- the pairs are kept apart, over any run whose times never go back
   pub isolation : Demand3
+  -- a batch is done as calls, or refused whole and changes nothing (02, CR 4); over any run with batches, each with a buffer that holds its replies together,
+  -- the pairs are kept apart too
+  pub batches-safe : BatchesSafe
+  pub batches : Demand3Batches
   -- the marked cases of 01, "One day at the counter"
   pub day : All cases
   -- The claim on runs is not empty. A run that it speaks of: in its order, CLOCK, a look, a renewal, NOPAIR of a call of no pair, a call of another pair
@@ -43,3 +53,10 @@ pub record Promises : Type 0 where
   -- and the claim on runs does not hold without its hypotheses
   pub needs-times : ¬ AtAnyTimes
   pub needs-order : ¬ InAnyOrder
+  -- A batch that the claim speaks of, of two pairs, in a buffer that just holds its replies; and the same with an octet less: the second item is refused with
+  -- ROOM. Without room for both, the claim on batches does not hold.
+  pub sample-batch : batchNumbers (batchOn table lent items 129) ≡ 0 ∷ 0 ∷ []
+  pub sample-roomy : Roomy table (batch lent items 129 ∷ [])
+  pub sample-batch-times : NeverBack (allCalls (tableRules table) (batch lent items 129 ∷ []))
+  pub sample-room : batchNumbers (batchOn table lent items 128) ≡ 0 ∷ 8 ∷ []
+  pub needs-room : ¬ AtAnyRoom

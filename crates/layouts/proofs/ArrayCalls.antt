@@ -20,15 +20,17 @@ use Rattle.model.specs.Pairs.{issued}
 use Rattle.model.specs.Tables.{Row, Table, noPair, rowAt, suffixAt, pairAt, withPair, namesOf, rowNamed, isNone, suffixOk, termOk, tableRules}
 use Rattle.model.specs.Checks.{check, checkKnown}
 use Rattle.model.specs.Judging.{Holder, holder}
-use Rattle.model.specs.Calls.{TIME, timeFits, emptyTable, newTable, NAME, TERM, TWIN, FULL, Outcome, Result, refusal, done, unchanged, gate, clockAt, withRow, firstSerial, freshPair, enrolled, enrolPassed, enrolOn, sizeOk, Call, issue, revoke, look, message, timeOf, signedBy, readBy, octetsOwner, numberOwner, ownerOf, stepOf, holderAt, servedBy, served, passed, called}
+use Rattle.model.specs.Calls.{TABLE, TIME, timeFits, emptyTable, newTable, NAME, TERM, TWIN, FULL, Outcome, Result, refusal, done, unchanged, gate, clockAt, withRow, firstSerial, freshPair, enrolled, enrolPassed, enrolOn, sizeOk, Call, issue, revoke, look, message, timeOf, signedBy, readBy, octetsOwner, numberOwner, ownerOf, stepOf, holderAt, servedBy, served, passed, called}
+use Rattle.model.specs.declared.BatchItem.{BatchItem}
 use Rattle.model.specs.Runs.{Operation, enrol, call, operated}
+use Rattle.model.specs.Batches.{BATCH, batchOk, itemCall, Batched, refusedWhole, behind, inTurn, batchOn}
 use Rattle.model.proofs.Buffers.{overlay-length}
 use Rattle.model.proofs.Rows.{few}
 use Rattle.model.proofs.Tests.{left, right}
 use Rattle.guarantees.proofs.OneCall.{served-is, pass-rules}
 use Rattle.guarantees.proofs.Made.{owner-enrolled}
-use Rattle.layouts.specs.Runs.{Act, new, on, acted, Does, Ran}
-use Rattle.layouts.specs.Array.{Array, Sized, suffixIn, rowIn, rowsIn, viewOf, rowOf, putClock, putPair, putRow, signedIn, readIn, octetsIn, numberIn, ownerIn, holderIn, refusedIn, servedIn, calledIn, enrolledIn, enrolIn, newIn, operatedIn, actedIn, runIn}
+use Rattle.layouts.specs.Runs.{Act, new, on, batch, Ended, single, acted, Does, Ran}
+use Rattle.layouts.specs.Array.{Array, Sized, suffixIn, rowIn, rowsIn, viewOf, rowOf, putClock, putPair, putRow, signedIn, readIn, octetsIn, numberIn, ownerIn, holderIn, refusedIn, servedIn, calledIn, enrolledIn, enrolIn, newIn, operatedIn, refusedAll, turnIn, actedIn, runIn}
 use Rattle.layouts.proofs.ArrayLaws.{view-at, view-count, view-clock, view-put, view-row, search-same, names-count}
 
 -- What an operation leaves, as it is shown.
@@ -162,10 +164,9 @@ module _ (a : Array) (z : Sized a) where
   operates (enrol time suffix lifetime fresh algorithm) = enrol-same time suffix lifetime fresh algorithm (gate (viewOf a) (some time))
   operates (call c) = called-same a z c (gate (viewOf a) (timeOf c)) refl
 
-  does : (o : Act) → Does viewOf a o (actedIn a o .0) (actedIn a o .1)
-  unfolding acted actedIn newTable newIn viewOf rowsIn emptyTable
-  does (new time) = check-same a TIME (timeFits time) (timeFits time) _ _ refl λ _. refl
-  does (on o) = operates o
+  news : (time : ℕ) → newTable (viewOf a) time ≡ result (newIn a time)
+  unfolding newTable newIn viewOf rowsIn emptyTable
+  news time = check-same a TIME (timeFits time) (timeFits time) _ _ refl λ _. refl
 
 sized-pair : (a : Array) (i : ℕ) (p : Pair) → Sized a → Sized (putPair a i p)
 unfolding putPair
@@ -222,10 +223,50 @@ sized-new : (a : Array) (time : ℕ) → Sized a → Sized (newIn a time .0)
 unfolding newIn
 sized-new a time z = checked a z TIME (timeFits time) _ λ _. record { octets = z .octets; sizes = z .sizes; slots = z .slots }
 
+-- ── Batches, and every act ──────────────────────────────────────────────────────────────────────────────────────────
+
+abbrev batched : Array × Ended → Batched
+batched r = record { number = r .1 .0; table = viewOf (r .0); outcomes = r .1 .1 }
+
+turn-same : (octets : List ℕ) (a : Array) (room : ℕ) (xs : List BatchItem) → Sized a → inTurn octets (viewOf a) room xs ≡ batched (turnIn octets a room xs)
+unfolding inTurn turnIn operated
+turn-same octets a room [] z = refl
+turn-same octets a room (x ∷ xs) z =
+    let c = call (itemCall octets room x) in
+    let r = operatedIn a c in
+    ap (λ (q : Result). behind (q .outcome) (inTurn octets (q .table) (room - length (q .outcome .reply)) xs)) (operates a z c)
+    ∙ ap (behind (r .1)) (turn-same octets (r .0) (room - length (r .1 .reply)) xs (sized-after a c z))
+
+sized-turn : (octets : List ℕ) (a : Array) (room : ℕ) (xs : List BatchItem) → Sized a → Sized (turnIn octets a room xs .0)
+unfolding turnIn
+sized-turn octets a room [] z = z
+sized-turn octets a room (x ∷ xs) z = sized-turn octets _ _ xs (sized-after a (call (itemCall octets room x)) z)
+
+module _ (octets : List ℕ) (a : Array) (room : ℕ) (xs : List BatchItem) (z : Sized a) where
+  batch-same : (b o : Bool)
+      → check (refusedWhole (viewOf a)) TABLE b (check (refusedWhole (viewOf a)) BATCH o (inTurn octets (viewOf a) room xs))
+      ≡ batched (check (refusedAll a) TABLE b (check (refusedAll a) BATCH o (turnIn octets a room xs)))
+  unfolding refusedWhole
+  batch-same false o = refl
+  batch-same true false = refl
+  batch-same true true = turn-same octets a room xs z
+
+  sized-batch : (b o : Bool) → Sized (check (refusedAll a) TABLE b (check (refusedAll a) BATCH o (turnIn octets a room xs)) .0)
+  sized-batch false o = z
+  sized-batch true false = z
+  sized-batch true true = sized-turn octets a room xs z
+
+does : (a : Array) → Sized a → (o : Act) → Does viewOf a o (actedIn a o .0) (actedIn a o .1)
+unfolding acted actedIn batchOn
+does a z (new time) = ap single (news a z time)
+does a z (on o) = ap single (operates a z o)
+does a z (batch octets xs room) = batch-same octets a room xs z (tableRules (viewOf a)) (batchOk octets xs)
+
 sized-then : (a : Array) (o : Act) → Sized a → Sized (actedIn a o .0)
 unfolding actedIn
 sized-then a (new time) z = sized-new a time z
 sized-then a (on o) z = sized-after a o z
+sized-then a (batch octets xs room) z = sized-batch octets a room xs z (tableRules (viewOf a)) (batchOk octets xs)
 
 -- Its runs are runs.
 pub ran : (a : Array) (os : List Act) → Sized a → Ran viewOf a os (runIn a os)

@@ -6,8 +6,9 @@ use mathlib.Core.Option.{Option, some}
 use mathlib.Core.Path.{_≡_, refl, sym, ap, ap₂, _∙_}
 use lib.ListN.{length}
 use Rattle.model.specs.Tables.{Table, tableRules}
-use Rattle.model.specs.Calls.{TABLE, Outcome, Result, unchanged, gate, enrolPassed, enrolOn, timeOf, passed, called, issueOn, revokeOn, lookOn, messageOn, bufferAfter}
+use Rattle.model.specs.Calls.{DONE, TABLE, Result, unchanged, gate, enrolPassed, enrolOn, timeOf, passed, called, issueOn, revokeOn, lookOn, messageOn, bufferAfter}
 use Rattle.model.specs.Runs.{Operation, enrol, call, operated}
+use Rattle.model.specs.Batches.{Batched, batchOn, batchBuffer}
 use Rattle.model.specs.Listing.{listing}
 use Rattle.model.proofs.Listings.{listing-inj}
 use native.Mathlib.Omega.{arith}
@@ -17,7 +18,7 @@ use Rattle.store.proofs.Laid.{laid, ascends}
 use Rattle.operator.proofs.Laws.{new-in}
 use Rattle.checking.proofs.Laws.{layout-words, layout-octets}
 use Rattle.ruling.proofs.Laws.{broken-layout}
-use Rattle.layouts.specs.Runs.{Act, acted, Does, Ran, seen}
+use Rattle.layouts.specs.Runs.{Act, Ended, single, acted, Does, Ran, seen}
 use Rattle.layouts.specs.Array.{viewOf, runIn}
 use Rattle.layouts.specs.Claim.{Lent, shownIn, Contracts, Covered, Claim}
 use Rattle.layouts.proofs.ArrayCalls.{ran}
@@ -26,17 +27,17 @@ use Rattle.layouts.proofs.ArrayCalls.{ran}
 
 module _ {A B : Type 0} (v : A → Table) (u : B → Table) where
   alike :
-      (x : A) (y : B) (os : List Act) (run : List (A × Outcome)) (other : List (B × Outcome))
+      (x : A) (y : B) (os : List Act) (run : List (A × Ended)) (other : List (B × Ended))
       → v x ≡ u y
       → Ran v x os run
       → Ran u y os other
       → seen v run ≡ seen u other
   alike x y [] [] [] e r q = refl
   alike x y (o ∷ os) (a ∷ run) (b ∷ other) e r q =
-      let one : _≡_ {A = Result} (record { table = v (a .0); outcome = a .1 }) (record { table = u (b .0); outcome = b .1 }) = sym (r .0) ∙ ap (λ (t : Table). acted t o) e ∙ q .0 in
-      let then : v (a .0) ≡ u (b .0) = ap (λ (z : Result). z .table) one in
-      ap₂ (λ (z : Outcome × List ℕ) (l : List (Outcome × List ℕ)). z ∷ l)
-      (ap₂ {C = Outcome × List ℕ} (λ (z : Outcome) (l : List ℕ). (z, l)) (ap (λ (z : Result). z .outcome) one) (ap listing then))
+      let one : _≡_ {A = Batched} (record { number = a .1 .0; table = v (a .0); outcomes = a .1 .1 }) (record { number = b .1 .0; table = u (b .0); outcomes = b .1 .1 }) = sym (r .0) ∙ ap (λ (t : Table). acted t o) e ∙ q .0 in
+      let then : v (a .0) ≡ u (b .0) = ap (λ (z : Batched). z .table) one in
+      ap₂ (λ (z : Ended × List ℕ) (l : List (Ended × List ℕ)). z ∷ l)
+      (ap₂ {C = Ended × List ℕ} (λ (z : Ended) (l : List ℕ). (z, l)) (ap {B = Ended} (λ (z : Batched). (z .number, z .outcomes)) one) (ap listing then))
       (alike (a .0) (b .0) os run other then (r .1) (q .1))
 
 -- ── TABLE ───────────────────────────────────────────────────────────────────────────────────────────────────────────
@@ -52,9 +53,10 @@ module _ (t : Table) (e : tableRules t ≡ false) where
   refused (call c) = ap (passed t c) (shut (timeOf c))
 
 covered : Covered
-unfolding shownIn
+unfolding shownIn batchOn
 covered = record {
   refused = λ l o e. refused (tableOf (l .0) (l .1)) (broken-layout (l .0) (l .1) e) o;
+  batches = λ l octets xs room e. rw (broken-layout (l .0) (l .1) e) refl;
   words = λ l n. layout-words (l .0) (l .1) n;
   octets = λ l n. layout-octets (l .0) (l .1) n;
   order = λ w s q h n. not-so (layoutRule w s) λ ok. n (ascends (laid w s ok) q (suc q) (omega arith) h);
@@ -65,18 +67,25 @@ covered = record {
 -- ── The contracts ───────────────────────────────────────────────────────────────────────────────────────────────────
 
 contracts : Contracts
-unfolding shownIn acted operated issueOn revokeOn lookOn messageOn bufferAfter
+unfolding shownIn acted operated issueOn revokeOn lookOn messageOn bufferAfter batchBuffer
 contracts = record {
-  news = λ time w s w′ a long wide v. sym (v .says ∙ new-in time w s long wide (tableOf w s));
-  enrols = λ time suffix lifetime fresh algorithm w s w′ s′ a v. sym (v .says);
-  issues = λ time pair algorithm w s w′ s′ a v. sym (v .says);
-  revokes = λ time pair w s w′ s′ a v. sym (v .says);
-  looks = λ m w s a e. sym e;
+  news = λ time w s w′ a long wide v. ap single (sym (v .says ∙ new-in time w s long wide (tableOf w s)));
+  enrols = λ time suffix lifetime fresh algorithm w s w′ s′ a v. ap single (sym (v .says));
+  issues = λ time pair algorithm w s w′ s′ a v. ap single (sym (v .says));
+  revokes = λ time pair w s w′ s′ a v. ap single (sym (v .says));
+  looks = λ m w s a e. ap single (sym e);
   messages = λ time good offer m own w s w′ b b′ a v. record {
     outcome = messageOn (tableOf w s) time good offer (length b) m .outcome;
-    does = ap {B = Result} (λ (t : Table). record { table = t; outcome = messageOn (tableOf w s) time good offer (length b) m .outcome }) (sym (v .shows));
+    does = ap {B = Batched} (λ (t : Table). record { number = DONE; table = t; outcomes = messageOn (tableOf w s) time good offer (length b) m .outcome ∷ [] }) (sym (v .shows));
     answer = v .answers;
     reply = v .replies;
+  };
+  batches = λ octets xs w s w′ a a′ b b′ n v. record {
+    outcomes = batchOn (tableOf w s) octets xs (length b) .outcomes;
+    does =
+        ap₂ {C = Batched} (λ (k : ℕ) (t : Table). record { number = k; table = t; outcomes = batchOn (tableOf w s) octets xs (length b) .outcomes }) (sym (v .number)) (sym (v .shows));
+    answers = v .answers;
+    replies = v .replies;
   };
 }
 

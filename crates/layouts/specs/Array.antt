@@ -7,18 +7,20 @@ use mathlib.Core.Option.{Option, none, some}
 use mathlib.Core.List.{List, [], _∷_}
 use lib.ListN.{length, getD, set}
 use lib.Dec.{leb, ltb}
+use Rattle.model.specs.declared.BatchItem.{BatchItem}
 use Rattle.model.specs.declared.Pair.{Pair}
 use Rattle.model.specs.Octets.{part, overlay, Reading, stops, reads}
 use Rattle.model.specs.Names.{sameName, afterLabel, algorithmNumbered}
 use Rattle.model.specs.Messages.{Message, readMessage}
 use Rattle.model.specs.Tsig.{Signature, unsigned, misplaced, wellPlaced, signature}
 use Rattle.model.specs.Pairs.{issued}
-use Rattle.model.specs.Tables.{Row, Table, noPair, isNone, suffixOk, termOk}
+use Rattle.model.specs.Tables.{Row, Table, noPair, isNone, suffixOk, termOk, tableRules}
 use Rattle.model.specs.Checks.{check, checkKnown}
 use Rattle.model.specs.Judging.{Holder, nobody, holder}
-use Rattle.model.specs.Calls.{TIME, NAME, TERM, TWIN, FULL, Outcome, refusal, done, timeFits, gate, freshPair, sizeOk, Call, issue, revoke, look, message, timeOf, stepOf}
+use Rattle.model.specs.Calls.{DONE, TABLE, TIME, NAME, TERM, TWIN, FULL, Outcome, refusal, done, timeFits, gate, freshPair, sizeOk, Call, issue, revoke, look, message, timeOf, stepOf}
 use Rattle.model.specs.Runs.{Operation, enrol, call}
-use Rattle.layouts.specs.Runs.{Act, new, on}
+use Rattle.model.specs.Batches.{BATCH, batchOk, itemCall}
+use Rattle.layouts.specs.Runs.{Act, new, on, batch, Ended, alone}
 
 pub record Array : Type 0 where
   pub clock : ℕ
@@ -137,11 +139,29 @@ unfoldable pub operatedIn : Array → Operation → Array × Outcome
 operatedIn a (enrol time suffix lifetime fresh algorithm) = enrolIn a time suffix lifetime fresh algorithm (gate (viewOf a) (some time))
 operatedIn a (call c) = calledIn a c (gate (viewOf a) (timeOf c))
 
-unfoldable pub actedIn : Array → Act → Array × Outcome
-actedIn a (new time) = newIn a time
-actedIn a (on o) = operatedIn a o
+-- A batch: TABLE, BATCH, and its items in turn, each lent the room that is left.
+abbrev pub refusedAll : Array → ℕ → Array × Ended
+refusedAll a n = (a, (n, []))
+
+abbrev pub andThen : Array × Outcome → Array × Ended → Array × Ended
+andThen r rest = (rest .0, (rest .1 .0, r .1 ∷ rest .1 .1))
+
+unfoldable pub turnIn : List ℕ → Array → ℕ → List BatchItem → Array × Ended
+turnIn octets a room [] = (a, (DONE, []))
+turnIn octets a room (x ∷ xs) =
+    let r = operatedIn a (call (itemCall octets room x)) in
+    andThen r (turnIn octets (r .0) (room - length (r .1 .reply)) xs)
+
+abbrev pub only : Array × Outcome → Array × Ended
+only r = (r .0, alone (r .1))
+
+unfoldable pub actedIn : Array → Act → Array × Ended
+actedIn a (new time) = only (newIn a time)
+actedIn a (on o) = only (operatedIn a o)
+actedIn a (batch octets xs room) =
+    check (refusedAll a) TABLE (tableRules (viewOf a)) (check (refusedAll a) BATCH (batchOk octets xs) (turnIn octets a room xs))
 
 -- A run.
-abbrev pub runIn : Array → List Act → List (Array × Outcome)
+abbrev pub runIn : Array → List Act → List (Array × Ended)
 runIn a [] = []
 runIn a (o ∷ os) = actedIn a o ∷ runIn (actedIn a o .0) os

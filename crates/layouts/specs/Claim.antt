@@ -7,10 +7,12 @@ use mathlib.Core.List.{List, []}
 use mathlib.Core.Path.{_≡_}
 use lib.ListN.{length}
 use Rattle.model.specs.declared.Answer.{Answer}
+use Rattle.model.specs.declared.BatchItem.{BatchItem}
 use Rattle.model.specs.Octets.{put}
 use Rattle.model.specs.Tables.{Table}
 use Rattle.model.specs.Calls.{TABLE, Outcome, unchanged, issue, revoke, look, message, enrolOn, issueOn, revokeOn, lookOn, messageOn}
 use Rattle.model.specs.Runs.{Operation, enrol, call, operated}
+use Rattle.model.specs.Batches.{refusedWhole, batchOn, repliesOf}
 use Rattle.model.specs.Listing.{listing}
 use Rattle.ordering.specs.declared.Ordering.the-variants.{Less}
 use Rattle.ordering.specs.Order.{orderOf}
@@ -18,7 +20,8 @@ use Rattle.store.specs.Layout.{countOf, placeOf, rowIn, suffixIn, layoutRule, t
 use Rattle.operator.specs.Made.{Made}
 use Rattle.outcomes.specs.Ends.{shown, Served}
 use Rattle.server.specs.Serve.{Answered}
-use Rattle.layouts.specs.Runs.{Act, new, on, Does, Ran, seen}
+use Rattle.batches.specs.Batched.{answersOf, BatchShows}
+use Rattle.layouts.specs.Runs.{Act, new, on, batch, Ended, alone, Does, Ran, seen}
 use Rattle.layouts.specs.Array.{Array, Sized, viewOf, runIn}
 
 -- The words and the octets, and the table that they show.
@@ -28,10 +31,17 @@ Lent = List ℕ × List ℕ
 unfoldable pub shownIn : Lent → Table
 shownIn l = tableOf (l .0) (l .1)
 
+-- A batch that ended so.
+pub record BatchDone (octets : List ℕ) (xs : List BatchItem) (w s w′ a a′ b b′ : List ℕ) (n : ℕ) : Type 0 where
+  pub outcomes : List Outcome
+  pub does : Does shownIn (w, s) (batch octets xs (length b)) (w′, s) (n, outcomes)
+  pub answers : a′ ≡ put (answersOf outcomes) a
+  pub replies : b′ ≡ put (repliesOf outcomes) b
+
 -- A message call that was answered so.
 pub record Messaged (time : ℕ) (good : Bool) (offer m w s w′ b b′ : List ℕ) (a : Answer) : Type 0 where
   pub outcome : Outcome
-  pub does : Does shownIn (w, s) (on (call (message time good offer (length b) m))) (w′, s) outcome
+  pub does : Does shownIn (w, s) (on (call (message time good offer (length b) m))) (w′, s) (alone outcome)
   pub answer : a ≡ outcome .answer
   pub reply : b′ ≡ put (outcome .reply) b
 
@@ -40,29 +50,39 @@ pub record Contracts : Type 1 where
   pub news :
       (time : ℕ) (w s w′ : List ℕ) (a : Answer) → length w ≡ 1091 → length s ≡ 8192
       → Made time w s w′ a
-      → Does shownIn (w, s) (new time) (w′, s) (record { answer = a; reply = [] })
+      → Does shownIn (w, s) (new time) (w′, s) (alone (record { answer = a; reply = [] }))
   pub enrols :
       (time : ℕ) (suffix : List ℕ) (lifetime fresh algorithm : ℕ) (w s w′ s′ : List ℕ) (a : Answer)
       → Served (λ t. enrolOn t time suffix lifetime fresh algorithm) w s w′ s′ a
-      → Does shownIn (w, s) (on (enrol time suffix lifetime fresh algorithm)) (w′, s′) (record { answer = a; reply = [] })
+      → Does shownIn (w, s) (on (enrol time suffix lifetime fresh algorithm)) (w′, s′) (alone (record { answer = a; reply = [] }))
   pub issues :
       (time pair algorithm : ℕ) (w s w′ s′ : List ℕ) (a : Answer)
       → Served (λ t. issueOn t time pair algorithm) w s w′ s′ a
-      → Does shownIn (w, s) (on (call (issue time pair algorithm))) (w′, s′) (record { answer = a; reply = [] })
+      → Does shownIn (w, s) (on (call (issue time pair algorithm))) (w′, s′) (alone (record { answer = a; reply = [] }))
   pub revokes :
       (time pair : ℕ) (w s w′ s′ : List ℕ) (a : Answer)
       → Served (λ t. revokeOn t time pair) w s w′ s′ a
-      → Does shownIn (w, s) (on (call (revoke time pair))) (w′, s′) (record { answer = a; reply = [] })
-  pub looks : (m w s : List ℕ) (a : Answer) → shown w s a ≡ lookOn (tableOf w s) m → Does shownIn (w, s) (on (call (look m))) (w, s) (record { answer = a; reply = [] })
+      → Does shownIn (w, s) (on (call (revoke time pair))) (w′, s′) (alone (record { answer = a; reply = [] }))
+  pub looks : (m w s : List ℕ) (a : Answer) → shown w s a ≡ lookOn (tableOf w s) m → Does shownIn (w, s) (on (call (look m))) (w, s) (alone (record { answer = a; reply = [] }))
   -- a message's outcome is its answer, and a reply that fills the first octets of its buffer
   pub messages :
       (time : ℕ) (good : Bool) (offer m : List ℕ) (own : Option ℕ) (w s w′ b b′ : List ℕ) (a : Answer)
       → Answered (λ t. messageOn t time good offer (length b) m) own w s w′ b b′ a
       → Messaged time good offer m w s w′ b b′ a
+  -- a batch's outcomes are the answers told, and replies one after another in the first octets of its buffer
+  pub batches :
+      (octets : List ℕ) (xs : List BatchItem) (w s w′ a a′ b b′ : List ℕ) (n : ℕ)
+      → BatchShows octets xs w s w′ a a′ b b′ n
+      → BatchDone octets xs w s w′ a a′ b b′ n
 
--- Words and octets that break the layout rule, a wrong length included, are refused with TABLE by every operation, and shown as no table that keeps the rules.
+-- Words and octets that break the layout rule, a wrong length included, are refused with TABLE by every operation and batch, and shown as no table that keeps the
+-- rules.
 pub record Covered : Type 0 where
   pub refused : (l : Lent) (o : Operation) → layoutRule (l .0) (l .1) ≡ false → operated (shownIn l) o ≡ unchanged (shownIn l) TABLE
+  pub batches :
+      (l : Lent) (octets : List ℕ) (xs : List BatchItem) (room : ℕ)
+      → layoutRule (l .0) (l .1) ≡ false
+      → batchOn (shownIn l) octets xs room ≡ refusedWhole (shownIn l) TABLE
   pub words : (l : Lent) → (length (l .0) ≡ 1091 → ⊥) → layoutRule (l .0) (l .1) ≡ false
   pub octets : (l : Lent) → (length (l .1) ≡ 8192 → ⊥) → layoutRule (l .0) (l .1) ≡ false
   -- so do two places that are not in order, a number whose place does not name it, and a place whose row does not lead back to it
@@ -75,14 +95,14 @@ pub record Claim : Type 1 where
   pub covered : Covered
   -- from lent tables that list alike, whatever their words, any run ends alike, act by act
   pub lent :
-      (l m : Lent) (os : List Act) (run other : List (Lent × Outcome))
+      (l m : Lent) (os : List Act) (run other : List (Lent × Ended))
       → listing (shownIn l) ≡ listing (shownIn m)
       → Ran shownIn l os run
       → Ran shownIn m os other
       → seen shownIn run ≡ seen shownIn other
   -- and as the layout before did
   pub before :
-      (l : Lent) (a : Array) (os : List Act) (run : List (Lent × Outcome))
+      (l : Lent) (a : Array) (os : List Act) (run : List (Lent × Ended))
       → Sized a
       → listing (shownIn l) ≡ listing (viewOf a)
       → Ran shownIn l os run

@@ -228,7 +228,7 @@ pub own-settled : {row : ℕ} {p : Pair} {serial : ℕ} {w s w′ : List ℕ} {a
 own-settled st = record { kept = λ i h side. kept (st .words) i side }
 
 -- the words but the clock's are as they were
-after-clock : (v w : List ℕ) → drop 1 v ≡ drop 1 w → (i : ℕ) → 0 < i → getD v i 0 ≡ getD w i 0
+pub after-clock : (v w : List ℕ) → drop 1 v ≡ drop 1 w → (i : ℕ) → 0 < i → getD v i 0 ≡ getD w i 0
 after-clock v w e i h =
     let n : 1 + (i - 1) ≡ i = omega arith in
     let d = rw n at (getD-drop 1 v (i - 1) 0) in

@@ -10,7 +10,7 @@ ghost use lib.Dec.{leb};
 ghost use lib.ListN.{length};
 ghost use Prim.Native.Nat.{_<_};
 ghost use Rattle.model.specs.Names.{algorithmNumbered};
-ghost use Rattle.model.specs.Tables.{suffixAt, pairAt};
+ghost use Rattle.model.specs.Tables.{suffixAt, pairAt, tableRules};
 ghost use Rattle.model.specs.Calls.{refusal, done};
 ghost use Rattle.store.specs.Layout.{layoutRule, tableOf};
 ghost use Rattle.outcomes.specs.Gate.{First, Entered};
@@ -32,32 +32,41 @@ pub fn finished(pair: u64, serial: u64) -> Answer
 
 // ── The refusals that come first ────────────────────────────────────────────────────────────────────────────────────
 
-// TABLE, TIME, CLOCK, or 0.
-pub fn first_refusal(words: &[u64], suffixes: &[u8], time: u64) -> u64
+// TIME or CLOCK, or 0, where the table keeps the rules.
+fn late(words: &[u64], suffixes: &[u8], time: u64) -> u64
+    requires { ⌜ tableRules (tableOf (now words) (now suffixes)) ≡ true ⌝ }
     ensures { λ r. ⌜ First (now (words .entry)) (now (suffixes .entry)) time r ⌝ }
 {
-    if !ruling::rules_ok(words, suffixes) {
-        return 1;
-    }
     if 0xffff_8000_0000 <= time {
         return 2;
     }
     if time < words[0] {
         return 3;
     }
-    0 // none of them
+    0 // neither
 }
 
-// The gate of every call with a time: TABLE, TIME or CLOCK, with every word left; or 0, with the clock set.
-pub fn enter(words: &mut [u64], suffixes: &[u8], time: u64) -> u64
+// The gate of a call with a time, where the table keeps the rules: TIME or CLOCK, with every word left; or 0, with the clock set.
+pub fn enter_ruled(words: &mut [u64], suffixes: &[u8], time: u64) -> u64
+    requires { ⌜ tableRules (tableOf (now words) (now suffixes)) ≡ true ⌝ }
     ensures { λ r. ⌜ Entered (now (words .entry)) (now (suffixes .entry)) time (now (words .exit)) r ⌝ }
 {
-    let n = first_refusal(words, suffixes, time);
+    let n = late(words, suffixes, time);
     if n != 0 {
         return n;
     }
     store::set_clock(words, time);
     0
+}
+
+// The gate of every call with a time: TABLE first.
+pub fn enter(words: &mut [u64], suffixes: &[u8], time: u64) -> u64
+    ensures { λ r. ⌜ Entered (now (words .entry)) (now (suffixes .entry)) time (now (words .exit)) r ⌝ }
+{
+    if !ruling::rules_ok(words, suffixes) {
+        return 1;
+    }
+    enter_ruled(words, suffixes, time)
 }
 
 // ── Rows ────────────────────────────────────────────────────────────────────────────────────────────────────────────

@@ -1,6 +1,7 @@
 // Replays a script of calls: each line of standard input is done to the table, to the resolver, or to octets alone, and its result printed (docs/SCRIPT.md), in
 // constant memory. What is printed is tested, not proved. The first failure of reading or writing ends the run: a line that was cut off is not done, nothing
 // more is printed, and standard error says what failed.
+mod batch_lines;
 mod print;
 mod resolver_lines;
 mod signing_lines;
@@ -32,12 +33,13 @@ fn printed(resolver: Resolver, length: usize) -> Done {
     Done { resolver, length }
 }
 
-// Does the line of a run, a command, and prints at the front of text.
+// Does the line of a run, a command, and prints at the front of text. The items are a batch's.
 fn perform(
     words: &mut [u64],
     suffixes: &mut [u8],
     r: Run,
     c: Command,
+    items: &[u64; 384],
     arena: &[u8],
     out: &mut [u8],
     text: &mut [u8],
@@ -48,6 +50,10 @@ fn perform(
     match call {
         Call::Table(call) => {
             let n = table_lines::table_line(words, suffixes, call, a, arena, out, text);
+            printed(s, n)
+        }
+        Call::Batch => {
+            let n = batch_lines::batch_line(words, suffixes, a, items, arena, out, text);
             printed(s, n)
         }
         Call::Resolver(call) => {
@@ -86,8 +92,9 @@ fn end_line(
     out: &mut [u8],
     text: &mut [u8],
 ) -> Run {
-    let c = script::read_line(line, arena);
-    let d = perform(words, suffixes, r, c, arena, out, text);
+    let mut items = [0u64; 384];
+    let c = script::read_line(line, arena, &mut items[..]);
+    let d = perform(words, suffixes, r, c, &items, arena, out, text);
     let resolver = d.resolver;
     let on = written(print::front(text, d.length));
     Run {
@@ -312,6 +319,7 @@ fn main() {
     let mut line = [0u8; 200001];
     let mut arena = [0u8; 100000];
     let mut out = [0u8; 100000];
+    // The longest result is a batch's: the digits of 100,000 octets, and in each of 64 lines at most 150 octets more.
     let mut text = [0u8; 210000];
     let start = Run {
         resolver: resolver_lines::newcomer(),

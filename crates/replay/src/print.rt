@@ -1,7 +1,6 @@
 // What the replay prints (docs/SCRIPT.md), in a lent buffer, by positions: each writer takes the place and answers the next one. A buffer that is full takes no
 // more; the program's holds the longest result.
 use model::Algorithm;
-use model::Answer;
 
 // The first n octets of s, or all of them.
 pub fn front(s: &[u8], n: usize) -> &[u8] {
@@ -42,14 +41,13 @@ pub fn number_field(text: &mut [u8], at: usize, separator: u8, n: u64) -> usize 
     number(text, next, n)
 }
 
-// A signed number behind a space.
-fn signed_field(text: &mut [u8], at: usize, n: i64) -> usize {
-    let size = text::magnitude(n);
-    if 0 <= n {
-        return number_field(text, at, b' ', size);
+// A signed number behind a space, from its word in two's complement.
+fn signed_field(text: &mut [u8], at: usize, w: u64) -> usize {
+    if w < 0x8000_0000_0000_0000 {
+        return number_field(text, at, b' ', w);
     }
     let next = octet(text, at, b' ');
-    number_field(text, next, b'-', size)
+    number_field(text, next, b'-', 0xffff_ffff_ffff_ffff - w + 1)
 }
 
 fn digit(n: u8) -> u8 {
@@ -81,21 +79,26 @@ pub fn algorithm_field(text: &mut [u8], at: usize, g: Algorithm) -> usize {
     }
 }
 
-fn result_end(text: &mut [u8], at: usize, a: Answer, reply: &[u8]) -> usize {
-    let next = number_field(text, at, b' ', a.pair);
-    let next = number_field(text, next, b' ', a.serial);
+// Word i of an answer's seven: number, length, TSIG error, skew, pair, serial, place.
+pub fn word(answer: &[u64], i: usize) -> u64 {
+    if i < answer.len() { answer[i] } else { 0 }
+}
+
+fn result_end(text: &mut [u8], at: usize, answer: &[u64], reply: &[u8]) -> usize {
+    let next = number_field(text, at, b' ', word(answer, 4));
+    let next = number_field(text, next, b' ', word(answer, 5));
     let next = octets_field(text, next, b' ', reply);
-    let next = number_field(text, next, b' ', a.place);
+    let next = number_field(text, next, b' ', word(answer, 6));
     octet(text, next, b'\n')
 }
 
 // NUMBER LENGTH TSIGERROR SKEW PAIR SERIAL REPLY PLACE
-pub fn result(text: &mut [u8], a: Answer, reply: &[u8]) -> usize {
-    let next = number(text, 0, a.number);
-    let next = number_field(text, next, b' ', a.length);
-    let next = number_field(text, next, b' ', a.error);
-    let next = signed_field(text, next, a.skew);
-    result_end(text, next, a, reply)
+pub fn result(text: &mut [u8], at: usize, answer: &[u64], reply: &[u8]) -> usize {
+    let next = number(text, at, word(answer, 0));
+    let next = number_field(text, next, b' ', word(answer, 1));
+    let next = number_field(text, next, b' ', word(answer, 2));
+    let next = signed_field(text, next, word(answer, 3));
+    result_end(text, next, answer, reply)
 }
 
 // The line for line number n of the script, which does not read.

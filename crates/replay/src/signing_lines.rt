@@ -20,7 +20,7 @@ fn assembled(r: Assembly, out: &[u8], text: &mut [u8]) -> usize {
 }
 
 // The front of out that a line lends: ROOM octets, 100,000 at most.
-fn lent(out: &mut [u8], room: u64) -> &mut [u8] {
+pub fn lent(out: &mut [u8], room: u64) -> &mut [u8] {
     if 100000 <= room {
         return table_lines::up_to(out, 100000);
     }

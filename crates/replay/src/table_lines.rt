@@ -8,7 +8,9 @@ use script::TableCall;
 // Prints what a call answered; its reply stands at the front of out.
 fn told(a: Answer, out: &[u8], text: &mut [u8]) -> usize {
     let n = (a.length % 65536) as usize;
-    print::result(text, a, print::front(out, n))
+    let skew = results::skew_word(a.skew);
+    let answer = [a.number, a.length, a.error, skew, a.pair, a.serial, a.place];
+    print::result(text, 0, &answer[..], print::front(out, n))
 }
 
 fn list(words: &[u64], suffixes: &[u8], text: &mut [u8]) -> usize {

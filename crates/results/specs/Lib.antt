@@ -1,2 +1,3 @@
 -- What the contracts of this crate and of those above cite.
 pub mod Bare
+pub mod Words

@@ -3,6 +3,7 @@
 use model::Span;
 use words::Number;
 use words::Octets;
+ghost use Prim.Native.Nat.{_≤_};
 
 // The calls on the table.
 pub enum TableCall {
@@ -38,12 +39,14 @@ pub enum SigningCall {
 // Whose a line is, and which call; or it does not read.
 pub enum Call {
     Table(TableCall),
+    Batch,
     Resolver(ResolverCall),
     Signing(SigningCall),
     Unread,
 }
 
-// What the words behind the first say, each at its number: a number, `good` as 1 and `bad` as 0, or octets as a span of the arena.
+// What the words behind the first say, each at its number: a number, `good` as 1 and `bad` as 0, or octets as a span of the arena. A batch's items stand beside
+// them; their count is number 3.
 pub struct Args {
     pub numbers: [u64; 12],
     pub spans: [Span; 12],
@@ -80,7 +83,9 @@ fn tail(s: &mut [u8], from: usize) -> &mut [u8] {
 }
 
 // Where the word that starts at `from` ends: at a space, or with the line.
-fn word_end(line: &[u8], from: usize) -> usize {
+fn word_end(line: &[u8], from: usize) -> usize
+    ensures { λ r. ⌜ from ≤ r ⌝ }
+{
     let mut at = from;
     while at < line.len() {
         if line[at] == b' ' {
@@ -89,6 +94,14 @@ fn word_end(line: &[u8], from: usize) -> usize {
         at += 1;
     }
     at
+}
+
+// Where the word behind one that ends at `at` ends; at the end of the line there is none.
+fn next_end(line: &[u8], at: usize) -> usize {
+    if line.len() <= at {
+        return at;
+    }
+    word_end(line, at + 1)
 }
 
 // What a word says as octets, written to the front of out: hexadecimal, or `-` for none.
@@ -217,6 +230,41 @@ fn args_of(line: &[u8], kinds: &[u8], arena: &mut [u8]) -> Args {
     a
 }
 
+// ── A batch's items ─────────────────────────────────────────────────────────────────────────────────────────────────
+
+// Word i of an item, from 0: its verdict or one of its numbers.
+fn item_word(i: usize, w: &[u8]) -> Number {
+    if i == 1 {
+        return verdict(w);
+    }
+    words::read_number(w)
+}
+
+fn keep_word(items: &mut [u64], i: usize, x: u64) {
+    if i < items.len() {
+        items[i] = x;
+    }
+}
+
+// How many items the words behind `from` say, if they read: six words an item. Only as many words are kept as there is room for.
+fn items_of(line: &[u8], from: usize, items: &mut [u64]) -> Number {
+    let mut at = from;
+    let mut i: usize = 0;
+    while at < line.len() {
+        let start = at + 1;
+        at = word_end(line, start);
+        let Number::Is(x) = item_word(i % 6, part(line, start, at)) else {
+            return Number::None;
+        };
+        keep_word(items, i, x);
+        i += 1;
+    }
+    if i % 6 != 0 {
+        return Number::None;
+    }
+    Number::Is((i / 6) as u64)
+}
+
 // ── A line ──────────────────────────────────────────────────────────────────────────────────────────────────────────
 
 fn unread() -> Command {
@@ -226,13 +274,17 @@ fn unread() -> Command {
     }
 }
 
-// The line as this call, with words of these kinds.
-fn command_of(call: Call, line: &[u8], kinds: &[u8], arena: &mut [u8]) -> Command {
-    let args = args_of(line, kinds, arena);
+// The command, if each of its words reads.
+fn if_read(call: Call, args: Args) -> Command {
     if args.read {
         return Command { call, args };
     }
     unread()
+}
+
+// The line as this call, with words of these kinds.
+fn command_of(call: Call, line: &[u8], kinds: &[u8], arena: &mut [u8]) -> Command {
+    if_read(call, args_of(line, kinds, arena))
 }
 
 fn table_call(call: TableCall, line: &[u8], kinds: &[u8], arena: &mut [u8]) -> Command {
@@ -316,12 +368,24 @@ fn read_signing_line(word: &[u8], line: &[u8], arena: &mut [u8]) -> Command {
     unread()
 }
 
-// A line of at most 200,000 octets as a command; its octets stand in the arena, which 100,000 are enough for.
-pub fn read_line(line: &[u8], arena: &mut [u8]) -> Command {
+// A batch's line: two words as other lines have them, then its items.
+fn read_batch_line(line: &[u8], arena: &mut [u8], items: &mut [u64]) -> Command {
+    let end = next_end(line, next_end(line, word_end(line, 0)));
+    let a = args_of(part(line, 0, end), b"no", arena);
+    let count = items_of(line, end, items);
+    if_read(Call::Batch, with_number(a, 3, count, 0xffff_ffff_ffff_ffff))
+}
+
+// A line of at most 200,000 octets as a command; its octets stand in the arena, which 100,000 are enough for, and the first words of a batch's items in `items`.
+pub fn read_line(line: &[u8], arena: &mut [u8], items: &mut [u64]) -> Command {
     if 200000 < line.len() {
         return unread();
     }
-    read_table_line(part(line, 0, word_end(line, 0)), line, arena)
+    let word = part(line, 0, word_end(line, 0));
+    if words::is_word(word, b"batch") {
+        return read_batch_line(line, arena, items);
+    }
+    read_table_line(word, line, arena)
 }
 
 // ── What a command says ─────────────────────────────────────────────────────────────────────────────────────────────

@@ -9,7 +9,7 @@ ghost use mathlib.Core.Path.{_≡_};
 ghost use mathlib.Core.Bool.{true};
 ghost use Prim.Native.Nat.{_<_};
 ghost use lib.ListN.{length};
-ghost use Rattle.model.specs.Tables.{namesOf};
+ghost use Rattle.model.specs.Tables.{namesOf, tableRules};
 ghost use Rattle.model.specs.Calls.{message as messageCall, octetsOwner, served, messageOn};
 ghost use Rattle.store.specs.Layout.{layoutRule, tableOf};
 ghost use Rattle.outcomes.specs.Gate.{Open};
@@ -64,6 +64,28 @@ fn message_passed<'a>(
     }
 }
 
+// The message call on a table that keeps the rules: all of it but TABLE.
+pub fn message_ruled<'a>(
+    words: &mut [u64],
+    suffixes: &[u8],
+    time: u64,
+    good: bool,
+    message: &'a [u8],
+    offer: &'a [u8],
+    reply: &mut [u8],
+) -> Answer
+    requires { ⌜ tableRules (tableOf (now words) (now suffixes)) ≡ true ⌝ }
+    ensures { λ r. ⌜ Answered (λ t. messageOn t time good (now (offer .entry)) (length (now (reply .entry))) (now (message .entry)))
+        (octetsOwner (namesOf (tableOf (now (words .entry)) (now (suffixes .entry)))) (now (message .entry)))
+        (now (words .entry)) (now (suffixes .entry)) (now (words .exit)) (now (reply .entry)) (now (reply .exit)) r ⌝ }
+{
+    let n = outcomes::enter_ruled(words, suffixes, time);
+    if n != 0 {
+        return outcomes::refused(n);
+    }
+    message_passed(words, suffixes, time, good, message, offer, reply)
+}
+
 // Message: judges a message, of which the MAC's verdict, the time and the offered key data are given, changes the pair that it belongs to as judging
 // decides, and writes the reply into the first octets of `reply`. Returns the reply's length, the TSIG error, the skew, and the pair and the serial
 // of the key that signed. Refused, in this order, with TABLE (1), TIME (2), CLOCK (3), SIZE (4), OFFER (5), FORMAT (6), NOTQUERY (7), ROOM (8).
@@ -80,9 +102,8 @@ pub fn message<'a>(
         (octetsOwner (namesOf (tableOf (now (words .entry)) (now (suffixes .entry)))) (now (message .entry)))
         (now (words .entry)) (now (suffixes .entry)) (now (words .exit)) (now (reply .entry)) (now (reply .exit)) r ⌝ }
 {
-    let n = outcomes::enter(words, suffixes, time);
-    if n != 0 {
-        return outcomes::refused(n);
+    if !ruling::rules_ok(words, suffixes) {
+        return outcomes::refused(1);
     }
-    message_passed(words, suffixes, time, good, message, offer, reply)
+    message_ruled(words, suffixes, time, good, message, offer, reply)
 }

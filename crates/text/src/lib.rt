@@ -3,7 +3,6 @@ use model::Algorithm;
 ghost use mathlib.Core.Path.{_≡_};
 ghost use mathlib.Core.List.{[], _∷_};
 ghost use Prim.Native.Nat.{_+_, _*_, _/_, _%_, _≤_, _<_};
-ghost use lib.IntN.{natAbs};
 ghost use lib.ListN.{length};
 ghost use Rattle.model.specs.Listing.{algorithmWord};
 ghost use Rattle.model.specs.Text.{numeral, hexDigit, hexOf};
@@ -18,16 +17,6 @@ pub fn number_into(buf: &mut [u8], at: usize, n: u64) -> usize
         return octets::u8_into(buf, at, 48);
     }
     names::decimal_into(buf, at, n)
-}
-
-// How far n is from 0. (-1 - n fits for the least n too.)
-pub fn magnitude(n: i64) -> u64
-    ensures { λ r. ⌜ r ≡ natAbs n ⌝ }
-{
-    if 0 <= n {
-        return n as u64;
-    }
-    ((-1 - n) as u64) + 1
 }
 
 fn hex_digit(n: u8) -> u8

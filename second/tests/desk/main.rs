@@ -1,5 +1,6 @@
 //! Tests of the second reader, by the sections of document 01.
 
+mod batches;
 mod build;
 mod clients;
 mod day;

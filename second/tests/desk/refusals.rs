@@ -49,6 +49,7 @@ fn numbers() {
     ];
     assert!((1..=15).eq(numbers.into_iter().map(Refusal::number)));
     assert!(numbers.into_iter().all(|refusal| refusal.place() == 0));
+    assert_eq!((Refusal::Batch.number(), Refusal::Batch.place()), (17, 0));
     assert_eq!(Refusal::Format(12).place(), 12);
 }
 

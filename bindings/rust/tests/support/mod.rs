@@ -196,5 +196,6 @@ fn refusal_of(refusal: second::Refusal) -> Refusal {
         Theirs::Term => Ours::Term,
         Theirs::Twin => Ours::Twin,
         Theirs::Full => Ours::Full,
+        Theirs::Batch => Ours::Batch,
     }
 }

@@ -1,12 +1,12 @@
--- `script::word_end` is safe and ends: what is left of the line falls. Assumes nothing.
-use Prim.Native.Nat.{_-_}
+-- `script::word_end` is safe and ends, not before where it began: what is left of the line falls. Assumes nothing.
+use Prim.Native.Nat.{_-_, _≤_}
 use borrow.Author.Needs.{needs}
 use lib.ListN.{length}
 use Rattle.script.proofs.word_end.Statement.{statement}
 use Rattle.script.proofs.word_end.Tie as tie
 
 abbrev Inv-loop : tie.InvT-loop
-Inv-loop line from at₀ at = Unit {0}
+Inv-loop line from at₀ at = from ≤ at
 
 abbrev μ-loop : tie.MeasureT-loop
 μ-loop line from at₀ at = length line - at

@@ -121,7 +121,7 @@ pub struct TkeySeen {
     pub error: u16,
 }
 
-#[derive(Clone, Debug, Default)]
+#[derive(Clone, Debug, Default, PartialEq)]
 pub struct Outcome {
     pub bad: bool,
     pub listed: bool,

@@ -9,6 +9,7 @@
 //!
 //! Every fourth seed (3, 7, 11 ...) ends its script without a newline.
 
+mod batch;
 mod desk;
 mod maker;
 mod reached;

@@ -22,13 +22,15 @@ const SPENT: &str = "takes 2^32 keys of one pair";
 const WAITING: &str = "a waiting key comes from a granted renewal only, which ends the signing \
 key's fresh time then; so step 7 answers every later deletion with PartialRevoke";
 
-const CALLS: [(&str, &[u64]); 17] = [
+const CALLS: [(&str, &[u64]); 19] = [
     ("new", &[0, 2]),
     ("enrol", &[0, 2, 3, 12, 13, 14, 15]),
     ("issue", &[0, 2, 3, 9, 13]),
     ("revoke", &[0, 2, 3, 9, 10]),
     ("look", &[0, 4, 6, 7]),
     ("message", &[0, 2, 3, 4, 5, 6, 7, 8]),
+    ("batch", &[0, 17]),
+    ("batch item", &[0, 2, 3, 4, 5, 6, 7, 8]),
     ("hold", &[0]),
     ("note", &[0]),
     ("renewal", &[0, 5, 6]),
@@ -78,12 +80,14 @@ const OUTCOMES: [&str; 33] = [
     "look 0 0",
 ];
 
-const NEVER: [(&str, &str); 15] = [
+const NEVER: [(&str, &str); 17] = [
     ("enrol 1", TABLE),
     ("issue 1", TABLE),
     ("revoke 1", TABLE),
     ("look 1", TABLE),
     ("message 1", TABLE),
+    ("batch 1", TABLE),
+    ("batch item 1", TABLE),
     ("issue 11", SPENT),
     ("precedence: NOPAIR over SPENT, SPENT over TERM", SPENT),
     ("tkey error 2 for want of a serial", SPENT),
@@ -121,7 +125,7 @@ impl Reached {
                 reached.add(format!("{call} {number}"), None);
             }
         }
-        for call in ["enrol", "issue", "revoke", "message"] {
+        for call in ["enrol", "issue", "revoke", "message", "batch item"] {
             reached.add(format!("clock moved by a refused {call}"), None);
         }
         for outcome in OUTCOMES {

@@ -1,6 +1,7 @@
 //! The generator's hands: writes lines, runs them, knows the table, and brings the desk
 //! into the state a scenario needs.
 
+mod batches;
 mod calls;
 mod eras;
 mod messages;
@@ -9,6 +10,7 @@ mod resolver;
 mod signing;
 mod states;
 
+pub use batches::MAX_BATCH_ROOM;
 pub use messages::{tkey, tsig};
 pub use resolver::{Order, Reply, Wish};
 pub use signing::{Signing, MAX_SIGNING_ROOM};
@@ -64,6 +66,12 @@ impl Signer {
 
 pub fn lower(octets: &[u8]) -> Vec<u8> {
     octets.to_ascii_lowercase()
+}
+
+fn printed(runner: &mut Runner, line: &[u8]) -> String {
+    let mut text = Vec::new();
+    runner.line(line, &mut text);
+    String::from_utf8(text).expect("results are ASCII")
 }
 
 pub struct Maker<'a> {
@@ -139,9 +147,7 @@ impl<'a> Maker<'a> {
     }
 
     fn printed(&mut self, line: &[u8]) -> String {
-        let mut text = Vec::new();
-        self.runner.line(line, &mut text);
-        String::from_utf8(text).expect("results are ASCII")
+        printed(&mut self.runner, line)
     }
 
     /// Writes one script line, if it is not past the limit.

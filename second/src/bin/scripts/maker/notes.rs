@@ -1,6 +1,7 @@
 //! What a line reached, whatever scenario made it, and rules that hold of every call.
 
 use super::Maker;
+use crate::batch::{Answer, Item};
 use crate::desk::{Outcome, Table};
 use crate::resolver::{Resolver, Said};
 use crate::signing::Told;
@@ -32,7 +33,7 @@ impl Maker<'_> {
         if seen.number != 0 {
             self.check_refused(before, seen);
         }
-        self.check_place(seen, words[words.len() - 1]);
+        self.check_place(seen, words[words.len() - 1].len() as u64 / 2);
     }
 
     /// The resolver's lines.
@@ -75,6 +76,37 @@ impl Maker<'_> {
         }
     }
 
+    /// The batch's lines.
+    pub(super) fn note_batch(&mut self, before: &Table, answer: &Answer) {
+        if !self.table.is_sound() {
+            self.surprise("the table breaks a rule");
+        }
+        match answer {
+            Answer::Bad => self.hit("bad line"),
+            Answer::Refused(number) => self.hit(&format!("batch {number}")),
+            Answer::Done(_) => return self.hit("batch 0"),
+        }
+        self.check_unchanged(before);
+    }
+
+    /// One item of a batch that is done; the table is the one that the item left.
+    pub(super) fn note_item(&mut self, item: &Item, before: &Table, seen: &Outcome) {
+        self.hit(&format!("batch item {}", seen.number));
+        self.note_clock("batch item", item.call.time, before, seen);
+        self.note_message(before, seen);
+        if seen.number != 0 {
+            self.check_refused(before, seen);
+        }
+        self.check_place(seen, item.message.size);
+    }
+
+    /// An item of a batch and the same call alone.
+    pub(super) fn check_alike(&mut self, alone: &Outcome, seen: &Outcome) {
+        if alone != seen {
+            self.surprise("an item came out otherwise than its call alone");
+        }
+    }
+
     pub(super) fn check_resolver_unchanged(&mut self) {
         if self.printed(b"keys") != self.shown {
             self.surprise("a line of the table's changed the resolver");
@@ -96,10 +128,9 @@ impl Maker<'_> {
         }
     }
 
-    /// The place beside FORMAT is behind the header and in the message or at its end; every
-    /// other result has place 0.
-    fn check_place(&mut self, seen: &Outcome, message: &str) {
-        let length = message.len() as u64 / 2;
+    /// The place beside FORMAT is behind the header and in the message or at its end, the
+    /// message having this length; every other result has place 0.
+    fn check_place(&mut self, seen: &Outcome, length: u64) {
         let is_good = match seen.number {
             6 => (12..=length).contains(&seen.place),
             _ => seen.place == 0,

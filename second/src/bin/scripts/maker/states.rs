@@ -17,6 +17,41 @@ impl Maker<'_> {
         self.issued(pair)
     }
 
+    /// Keys of so many pairs, in no order, all of them fresh at one time. A fresh key has no
+    /// waiting one beside it.
+    pub fn fresh_keys(&mut self, count: u64) -> Vec<Signer> {
+        let time = self.tick();
+        while self.count() < count {
+            self.enrol_fresh(time);
+        }
+        let mut pairs: Vec<u64> = (1..=self.count()).collect();
+        for place in 0..count {
+            let other = self.rng.within(place, pairs.len() as u64 - 1);
+            pairs.swap(place as usize, other as usize);
+        }
+        pairs.truncate(count as usize);
+        for &pair in &pairs {
+            if !self.pair(pair).is_fresh(time) {
+                let algorithm = self.rng.algorithm();
+                self.issue(time, pair, algorithm);
+            }
+        }
+        pairs.iter().map(|&pair| self.signer(pair, time)).collect()
+    }
+
+    /// A key just made that is fresh for ten minutes, the table's time being as long.
+    pub fn lasting(&mut self) -> Signer {
+        self.time_for(1000);
+        if let Some(pair) = self.some_pair(|p| p.fresh > 600) {
+            return self.issued(pair);
+        }
+        self.with_space();
+        let (time, suffix) = (self.tick(), self.fresh_suffix(6));
+        let algorithm = self.rng.algorithm();
+        self.enrol(time, &suffix, (900, 700), algorithm);
+        self.signer(self.count(), time)
+    }
+
     pub fn issued(&mut self, pair: u64) -> Signer {
         let algorithm = self.rng.algorithm();
         self.issued_with(pair, algorithm)

@@ -22,7 +22,7 @@ pub fn groups() -> Vec<Group> {
         },
         Group {
             name: "reply that moves",
-            weight: 8,
+            weight: 10,
             items: || cross(&KINDS, &MOVES),
             run: moves,
         },

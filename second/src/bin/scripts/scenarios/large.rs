@@ -3,7 +3,7 @@
 use super::names::pointer_chain;
 use super::{list, signing, Group};
 use crate::desk::Want;
-use crate::maker::{tkey, Maker, Signer, LINE_LIMIT};
+use crate::maker::{tkey, Call, Maker, Signer, LINE_LIMIT};
 use crate::wire::{self, label, name, name_of, pointer, record, Ask};
 
 pub fn groups() -> Vec<Group> {
@@ -15,7 +15,7 @@ pub fn groups() -> Vec<Group> {
     }]
 }
 
-const MAX: usize = 65_535;
+pub const MAX: usize = 65_535;
 
 const LARGE: [&str; 23] = [
     "signed message of 65535",
@@ -68,12 +68,12 @@ fn large(maker: &mut Maker, item: &str) -> bool {
 }
 
 /// Octets that are mostly alike: the script is read by people too.
-fn padding(length: usize) -> Vec<u8> {
+pub fn padding(length: usize) -> Vec<u8> {
     vec![0xab; length]
 }
 
 /// Pads a record of no concern until the whole message has this length.
-fn padded(mut ask: Ask, length: usize) -> Vec<u8> {
+pub fn padded(mut ask: Ask, length: usize) -> Vec<u8> {
     ask.sections[0].push(record(&[0], wire::NULL, wire::IN, &[]));
     let missing = length - ask.octets().len();
     if let Some(last) = ask.sections[0].last_mut() {
@@ -121,14 +121,21 @@ fn large_renewal(maker: &mut Maker, s: &Signer) -> bool {
     )
 }
 
+fn large_reply(maker: &mut Maker, s: &Signer, item: &str, size: usize) -> bool {
+    let kind = item.split([',', ' ']).next().unwrap_or_default();
+    let (call, ask, want) = ask_for_reply(maker, s, kind, size);
+    let fits = ask.octets().len() <= MAX;
+    fits && maker.asks(&call, &ask, want)
+}
+
 /// A reply may be longer than its request: names are written out, and the offer may be longer
 /// than the request's key data. The signer's own record, which is not echoed, pays for less.
-fn large_reply(maker: &mut Maker, s: &Signer, item: &str, size: usize) -> bool {
+pub fn ask_for_reply(maker: &mut Maker, s: &Signer, kind: &str, size: usize) -> (Call, Ask, Want) {
     let question = name_of(255);
-    let (mut ask, want) = match item.split([',', ' ']).next() {
-        Some("renewal") => (maker.renewal(s), Want::Tkey(0)),
-        Some("adoption") => (maker.adoption(s, &question, 256), Want::Tkey(20)),
-        Some("deletion") => (maker.deletion(s, &question), Want::Tkey(20)),
+    let (mut ask, want) = match kind {
+        "renewal" => (maker.renewal(s), Want::Tkey(0)),
+        "adoption" => (maker.adoption(s, &question, 256), Want::Tkey(20)),
+        "deletion" => (maker.deletion(s, &question), Want::Tkey(20)),
         _ => (maker.request(s, 3, &question), Want::Tkey(19)),
     };
     ask.sections = [vec![], vec![], vec![]];
@@ -145,9 +152,8 @@ fn large_reply(maker: &mut Maker, s: &Signer, item: &str, size: usize) -> bool {
         Some(key) => key.data.extend(padding(missing)),
         None => tkey(&mut ask).key.extend(padding(missing)),
     }
-    let fits = ask.octets().len() <= MAX;
     let want = if size > MAX { Want::Refused(8) } else { want };
-    fits && maker.asks(&call, &ask, want)
+    (call, ask, want)
 }
 
 /// All of the reach of pointers, 16 KiB.

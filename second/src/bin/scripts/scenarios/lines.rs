@@ -1,6 +1,7 @@
 //! Script lines that do not read, and odd ones that do.
 
 use super::{cross, list, two_words, Group};
+use crate::batch::Answer;
 use crate::maker::Maker;
 use crate::resolver::Said;
 use crate::signing::Told;
@@ -42,6 +43,18 @@ pub fn groups() -> Vec<Group> {
             weight: 2,
             items: || list(&SIGNINGS_ODD),
             run: signings_odd,
+        },
+        Group {
+            name: "batch's bad line",
+            weight: 6,
+            items: batches_bad_items,
+            run: batches_bad,
+        },
+        Group {
+            name: "batch's odd line",
+            weight: 2,
+            items: || list(&BATCHES_ODD),
+            run: batches_odd,
         },
     ]
 }
@@ -630,6 +643,175 @@ fn signings_odd(maker: &mut Maker, item: &str) -> bool {
         _ => {
             let numbers = "281474976710655 65535 65535 65535 - 18446744073709551615";
             told(&format!("digest-request {header} 00 00 {numbers}")) == Some(0)
+        }
+    }
+}
+
+const BATCHES_BAD: [&str; 20] = [
+    "no words",
+    "ROOM alone",
+    "1 word left over",
+    "2 words left over",
+    "3 words left over",
+    "4 words left over",
+    "5 words left over",
+    "leading space",
+    "trailing space",
+    "trailing space and no items",
+    "two spaces",
+    "two spaces between items",
+    "tab for space",
+    "carriage return",
+    "word in capitals",
+    "word with a letter more",
+    "the 65th does not read",
+    "the 66th does not read",
+    "item before the octets",
+    "items parted by commas",
+];
+
+/// By word of the line; those of an item after OCTETS.
+const BATCH_WORDS: [(&str, &[&str]); 8] = [
+    ("ROOM", &["2^64", "a dash", "empty", "with plus"]),
+    ("OCTETS", &["odd", "empty", "a bad digit", "two dashes"]),
+    ("TIME", &["2^64", "a dash", "empty", "with minus"]),
+    ("verdict", &["in capitals", "a number", "empty", "a dash"]),
+    ("FROM", &["2^64", "a dash", "empty", "with minus"]),
+    ("SIZE", &["2^64", "a dash", "empty", "in hexadecimal"]),
+    ("OFFERFROM", &["2^64", "a dash", "empty", "with plus"]),
+    ("OFFERSIZE", &["2^64", "a dash", "empty", "with a letter"]),
+];
+
+fn batches_bad_items() -> Vec<String> {
+    let mut all = list(&BATCHES_BAD);
+    for (word, ways) in BATCH_WORDS {
+        all.extend(ways.iter().map(|way| format!("{word} {way}")));
+    }
+    all
+}
+
+/// An item that reads, at the table's clock.
+fn batch_item(maker: &Maker) -> String {
+    format!("{} good 0 12 3 4", maker.table.clock)
+}
+
+const BATCH_START: &str = "batch 512 000a00000000000000000000";
+
+/// The time is one at which the line, were it read, would move the clock.
+fn batches_bad(maker: &mut Maker, item: &str) -> bool {
+    maker.time_for(1);
+    let line = match BATCHES_BAD.contains(&item) {
+        true => batches_bad_line(maker, item),
+        false => batches_bad_word(maker, item),
+    };
+    maker.batch_line(&line) == Answer::Bad
+}
+
+fn batches_bad_line(maker: &mut Maker, item: &str) -> String {
+    let one = format!("{} good 0 12 3 4", maker.table.clock + 1);
+    let items = maker.rng.within(1, 3) as usize;
+    let line = BATCH_START.to_string() + &format!(" {one}").repeat(items);
+    match item {
+        "no words" => "batch".to_string(),
+        "ROOM alone" => "batch 512".to_string(),
+        "leading space" => format!(" {line}"),
+        "trailing space" => format!("{line} "),
+        "trailing space and no items" => format!("{BATCH_START} "),
+        "two spaces" => line.replacen(' ', "  ", 1),
+        "two spaces between items" => format!("{line}  {one}"),
+        "tab for space" => line.replacen(' ', "\t", 1),
+        "carriage return" => format!("{line}\r"),
+        "word in capitals" => line.to_uppercase(),
+        "word with a letter more" => line.replacen("batch", "batches", 1),
+        "the 65th does not read" => with_last_bad(&one, 64),
+        "the 66th does not read" => with_last_bad(&one, 65),
+        "item before the octets" => format!("batch 512 {one} 000a00000000000000000000"),
+        "items parted by commas" => format!("{line}, {one}"),
+        _ => {
+            let count = item.split(' ').next().and_then(|word| word.parse().ok());
+            let words: Vec<&str> = one.split(' ').collect();
+            format!("{line} {}", words[..count.expect("a count")].join(" "))
+        }
+    }
+}
+
+/// That there are too many is said of a line that reads.
+fn with_last_bad(item: &str, before: usize) -> String {
+    format!(
+        "{BATCH_START}{} 0 good 0 0 0 x",
+        format!(" {item}").repeat(before)
+    )
+}
+
+fn batches_bad_word(maker: &mut Maker, item: &str) -> String {
+    let (name, way) = item.split_once(' ').expect("a word and what is wrong");
+    let word = match way {
+        "2^64" => "18446744073709551616",
+        "a dash" => "-",
+        "empty" => "",
+        "with plus" => "+1",
+        "with minus" => "-1",
+        "in hexadecimal" => "0x9",
+        "with a letter" => "1s",
+        "odd" => "000a0",
+        "a bad digit" => "0g",
+        "two dashes" => "--",
+        "in capitals" => "GOOD",
+        _ => "1",
+    };
+    let place = BATCH_WORDS.iter().position(|(word, _)| *word == name);
+    let place = 1 + place.expect("a word of the line");
+    let later = format!(" {} good 0 12 3 4", maker.table.clock + 1);
+    let line = BATCH_START.to_string() + &later.repeat(3);
+    let mut words: Vec<&str> = line.split(' ').collect();
+    // Any of the three items, for a word of an item.
+    let skipped = match place > 2 {
+        true => 6 * maker.rng.below(3) as usize,
+        false => 0,
+    };
+    words[place + skipped] = word;
+    words.join(" ")
+}
+
+const BATCHES_ODD: [&str; 6] = [
+    "no octets and no items",
+    "octets and no items",
+    "no octets and an item",
+    "leading zeros",
+    "capitals in hex",
+    "numbers at their greatest",
+];
+
+/// Lines that read, whatever the call says then.
+fn batches_odd(maker: &mut Maker, item: &str) -> bool {
+    let (clock, one) = (maker.table.clock, batch_item(maker));
+    let mut told = |line: &str| maker.batch_line(line);
+    let numbers = |answer: Answer| match answer {
+        Answer::Done(items) => items.iter().map(|item| item.number).collect(),
+        _ => vec![u64::MAX],
+    };
+    match item {
+        "no octets and no items" => told("batch 0 -") == Answer::Done(Vec::new()),
+        "octets and no items" => told(BATCH_START) == Answer::Done(Vec::new()),
+        "no octets and an item" => {
+            numbers(told(&format!("batch 0 - {clock} bad 0 0 0 0"))) == [4]
+                && told(&format!("batch 0 - {one}")) == Answer::Refused(17)
+        }
+        "leading zeros" => {
+            let octets = "000a00000000000000000000";
+            let zeros = format!("{clock:0>40} good 000 0000000000000000000000012 03 00004");
+            numbers(told(&format!("batch 000512 {octets} {zeros} {one}"))) == [0, 0]
+        }
+        "capitals in hex" => {
+            let line = format!("batch 0 ABcd00000000000000000000 {one}");
+            numbers(told(&line)) == [0]
+        }
+        _ => {
+            let most = u64::MAX;
+            let item = format!("{most} good {most} {most} {most} {most}");
+            let late = format!("batch {most} 00 {most} good 0 0 0 0");
+            told(&format!("batch {most} 00 {item}")) == Answer::Refused(17)
+                && numbers(told(&late)) == [2]
         }
     }
 }

@@ -3,7 +3,7 @@
 
 use super::{list, Group};
 use crate::desk::Pair;
-use crate::maker::{tkey, tsig, Maker, Signer, MAX_ROOM, TOP};
+use crate::maker::{tkey, tsig, Call, Maker, Signer, MAX_ROOM, TOP};
 use crate::wire::{self, algorithm_name, joined, key_name, label, name, Ask};
 
 pub fn groups() -> Vec<Group> {
@@ -11,13 +11,15 @@ pub fn groups() -> Vec<Group> {
         name: "mixture",
         weight: 160,
         items: || {
-            list(&[
-                "ordinary", "renewal", "adoption", "deletion", "any mode", "operator",
-            ])
+            let mut all = list(&REQUESTS);
+            all.push("operator".to_string());
+            all
         },
         run: mixture,
     }]
 }
+
+pub const REQUESTS: [&str; 5] = ["ordinary", "renewal", "adoption", "deletion", "any mode"];
 
 fn mixture(maker: &mut Maker, item: &str) -> bool {
     let pair = maker.any_pair();
@@ -25,8 +27,18 @@ fn mixture(maker: &mut Maker, item: &str) -> bool {
     if item == "operator" {
         return operator(maker, pair, time);
     }
+    let (mut call, message) = any_request(maker, pair, time, item);
+    call.room = match maker.rng.chance(90) {
+        true => MAX_ROOM,
+        false => maker.rng.below(400),
+    };
+    !maker.send(&call, &message).bad
+}
+
+/// A message of this kind by any key of the pair.
+pub fn any_request(maker: &mut Maker, pair: u64, time: u64, kind: &str) -> (Call, Vec<u8>) {
     let s = any_signer(maker, pair, time);
-    let mut ask = match item {
+    let mut ask = match kind {
         "ordinary" => maker.ordinary(&s),
         "renewal" => maker.renewal(&s),
         "adoption" => maker.request(&s, wire::ADOPT, &[0]),
@@ -45,11 +57,7 @@ fn mixture(maker: &mut Maker, item: &str) -> bool {
     if maker.rng.chance(5) {
         call.offer.clear();
     }
-    call.room = match maker.rng.chance(90) {
-        true => MAX_ROOM,
-        false => maker.rng.below(400),
-    };
-    !maker.send(&call, &ask.octets()).bad
+    (call, ask.octets())
 }
 
 /// Mostly now, sometimes at an edge of the key's life that lies near ahead.

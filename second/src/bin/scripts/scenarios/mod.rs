@@ -2,6 +2,8 @@
 //! desk into the state it needs, makes the call, and says whether the papers' outcome came.
 
 mod answers;
+mod batch_keys;
+mod batches;
 mod damage;
 mod exchange;
 mod large;
@@ -96,6 +98,8 @@ pub fn groups() -> Vec<Group> {
     all.extend(answers::groups());
     all.extend(signing::groups());
     all.extend(unsigning::groups());
+    all.extend(batches::groups());
+    all.extend(batch_keys::groups());
     all
 }
 

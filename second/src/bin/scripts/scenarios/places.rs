@@ -68,6 +68,22 @@ fn items() -> Vec<String> {
     cross(&["message", "look"], &faults)
 }
 
+/// All faults, for messages elsewhere.
+pub fn faults() -> Vec<&'static str> {
+    [&FAULTS[..], &BEHIND, &DATA].concat()
+}
+
+/// A message that is broken so in any part where it can be, and the place.
+pub fn any_broken(maker: &mut Maker, s: &Signer, fault: &str) -> (Vec<u8>, usize) {
+    let parts = match fault {
+        _ if BEHIND.contains(&fault) => &PARTS[1..],
+        _ if DATA.contains(&fault) => &PARTS[2..],
+        _ => &PARTS,
+    };
+    let part = *maker.rng.pick(parts);
+    broken(maker, s, part, fault)
+}
+
 fn place(maker: &mut Maker, item: &str) -> bool {
     let (way, rest) = super::two_words(item);
     let (part, fault) = super::two_words(rest);

@@ -14,7 +14,7 @@ pub fn groups() -> Vec<Group> {
     }]
 }
 
-const KINDS: [&str; 11] = [
+pub const KINDS: [&str; 11] = [
     "ill formed TSIG",
     "unsigned TKEY request",
     "BADKEY",
@@ -28,7 +28,8 @@ const KINDS: [&str; 11] = [
     "passed up",
 ];
 
-fn ask_for(maker: &mut Maker, kind: &str) -> (Signer, Ask, Want) {
+/// A message of this kind and what comes of it, where the verdict is bad for BADSIG alone.
+pub fn ask_for(maker: &mut Maker, kind: &str) -> (Signer, Ask, Want) {
     let s = match kind {
         "adoption" => maker.with_waiting(),
         "PartialRevoke" => maker.revoked(),

@@ -21,7 +21,7 @@ pub fn groups() -> Vec<Group> {
         },
         Group {
             name: "full table",
-            weight: 1,
+            weight: 2,
             items: || list(&FULL),
             run: full,
         },

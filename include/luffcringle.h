@@ -11,7 +11,7 @@
 extern "C" {
 #endif
 
-/* What a call returns, and the first word of its answer (document 01, "Numbers a caller sees"; the batch's own is of document 02). */
+/* What a call returns, and the first word of its answer (document 01, "Numbers a caller sees"; the last two are of document 02). */
 enum luffcringle_number {
     LUFFCRINGLE_DONE = 0,      /* work done */
     LUFFCRINGLE_TABLE = 1,     /* what was lent holds no table, or one that breaks a table rule */
@@ -29,7 +29,8 @@ enum luffcringle_number {
     LUFFCRINGLE_TERM = 13,     /* enrol: not 1 <= fresh < lifetime <= 2^31 - 1; enrol or issue: algorithm not 256, 384 or 512 */
     LUFFCRINGLE_TWIN = 14,     /* suffix already enrolled */
     LUFFCRINGLE_FULL = 15,     /* 64 pairs enrolled */
-    LUFFCRINGLE_BATCH = 17     /* batch: more than 64 items, or one outside the lent octets */
+    LUFFCRINGLE_BATCH = 17,    /* batch: more than 64 items, or one outside the lent octets */
+    LUFFCRINGLE_KEYREC = 19    /* a renewal of mode 4097 would be granted, but the lent record is not one KEY record */
 };
 
 /* The table: 1091 words and 8192 octets, which the caller keeps and lends to each call. A call reads and changes it where it lies.
@@ -90,7 +91,7 @@ enum luffcringle_answer {
  * - A call reads and writes only what it is lent, keeps nothing and allocates nothing. Two threads may call at the same time, but not on one table:
  *   a call may not write a table that another call reads or writes. Two looks may share one.
  * - Pointers: none is null, also where the length is 0; each leads to as many words or octets as its length says (words: 1091, suffixes: 8192,
- *   answer: 7, items: 384, answers: 448), aligned for its type; what is written (what is not const) overlaps nothing else that is lent. That is the
+ *   answer: 7, items: 576, answers: 448), aligned for its type; what is written (what is not const) overlaps nothing else that is lent. That is the
  *   caller's to keep: no call can test it.
  * - Times are seconds since 1970. MACs, secrets and key data are the caller's. */
 
@@ -121,9 +122,10 @@ uint64_t luffcringle_look(const uint64_t words[LUFFCRINGLE_TABLE_WORDS], const u
                           size_t message_length, uint64_t answer[LUFFCRINGLE_ANSWER_WORDS]);
 
 /* Message: judges a message, changes the pair that it belongs to as judging decides, and writes the reply without its TSIG into the first octets of
- * `reply`. `good` is the verdict on the MAC (ignored where there is no TSIG), `offer` the key data for a renewal, 0 to 1024 octets. Answers the
- * reply's length, the TSIG error, the skew, and the pair and the serial of the key that signed. Refused with TABLE, TIME, CLOCK, SIZE, OFFER,
- * FORMAT, NOTQUERY, ROOM (the reply's length has no TSIG in it: keep room to append one).
+ * `reply`. `good` is the verdict on the MAC (ignored where there is no TSIG). `offer`, `fits` and `record` are for renewals: key data of 0 to 1024
+ * octets, the keying verdict on the request's KEY record, and a KEY record of the server's. Answers the reply's length, the TSIG error, the skew, and
+ * the pair and the serial of the key that signed. Refused with TABLE, TIME, CLOCK, SIZE, OFFER, FORMAT, NOTQUERY, KEYREC, ROOM (the reply's length
+ * has no TSIG in it: keep room to append one).
  *
  * DONE with length 0: the message is the caller's to answer; signed by that pair and serial, with that skew, or unsigned where pair is 0.
  * DONE with a reply: the caller appends its TSIG (RFC 8945, 5.3.2), by the answer's error and pair and the reply's RCODE:
@@ -139,15 +141,34 @@ uint64_t luffcringle_look(const uint64_t words[LUFFCRINGLE_TABLE_WORDS], const u
  *                           algorithm's output, or longer than all of it, verifies nothing: pass `good` false for it.)
  *   0       0       1, 5    before a key is known: none
  * The request's key is the answer's pair and serial, also where this very message deleted or replaced it: keep its secret until the reply is
- * signed. */
+ * signed.
+ *
+ * A renewal is a TKEY request that asks for a new secret in one of three ways (document 002, 2.5), by the mode of its TKEY record. It has one KEY
+ * record in its additional section. Look at both before the call, and lend:
+ *   mode 4097, Diffie-Hellman. The KEY is the office's public key: `fits` says whether the server has a key of the same group. `offer` is a nonce,
+ *     fresh random octets, and `record` the server's own public key as a KEY record. The reply has the nonce as its key data and the record behind its
+ *     TKEY. The new secret is worked out from both public keys, the request's key data and the nonce (RFC 2930, 4.1).
+ *   mode 4098, server assignment. `offer` is the new secret, encrypted under the KEY: the reply's key data. `fits` and `record` are not looked at.
+ *   mode 4099, resolver assignment. The KEY is the server's own: `fits` says whether the server has its private key, and the new secret is what that
+ *     makes of the request's key data, which the reply repeats. `offer` is not used and may be empty, though one over 1024 octets is OFFER here too;
+ *     `record` is not looked at.
+ * A server that does not work the way of 4097 or 4099 passes `fits` false, and one that does not work that of 4098 an empty offer. A KEY that does not
+ * fit is answered with TKEY error 17 (BADKEY) in 4097 and 1 in 4099; an empty offer in 4097 and 4098, and a pair with no serial left in all three, with
+ * 2. What happens to the keys is the same in all three: only where the reply's TKEY error is 0 is there a new waiting key, whose name is the TKEY's;
+ * keep its secret.
+ *
+ * KEYREC: a renewal of mode 4097 passed everything else, but `record` is not exactly one record of type 25, its owner name uncompressed and its data
+ * length that of its data. It comes before ROOM and leaves all but the clock; the fault is the server's, and the message may be lent again with
+ * another record. A message that is no renewal looks at none of the three (an offer over 1024 octets is OFFER): pass no octets, false and no octets. */
 uint64_t luffcringle_message(uint64_t words[LUFFCRINGLE_TABLE_WORDS], const uint8_t suffixes[LUFFCRINGLE_TABLE_OCTETS], uint64_t time, bool good,
-                             const uint8_t *message, size_t message_length, const uint8_t *offer, size_t offer_length, uint8_t *reply,
-                             size_t reply_room, uint64_t answer[LUFFCRINGLE_ANSWER_WORDS]);
+                             const uint8_t *message, size_t message_length, const uint8_t *offer, size_t offer_length, bool fits,
+                             const uint8_t *record, size_t record_length, uint8_t *reply, size_t reply_room,
+                             uint64_t answer[LUFFCRINGLE_ANSWER_WORDS]);
 
-/* A batch's item: six words, item i from word 6 i on; its answer is seven, from word 7 i on. */
+/* A batch's item: nine words, item i from word 9 i on; its answer is seven, from word 7 i on. */
 #define LUFFCRINGLE_MOST_ITEMS 64
-#define LUFFCRINGLE_ITEM_WORDS 6
-#define LUFFCRINGLE_ITEMS_WORDS 384
+#define LUFFCRINGLE_ITEM_WORDS 9
+#define LUFFCRINGLE_ITEMS_WORDS 576
 #define LUFFCRINGLE_ANSWERS_WORDS 448
 enum luffcringle_item {
     LUFFCRINGLE_ITEM_TIME = 0,
@@ -155,22 +176,24 @@ enum luffcringle_item {
     LUFFCRINGLE_ITEM_MESSAGE = 2,       /* where the message stands in the octets: its first place, from 0 */
     LUFFCRINGLE_ITEM_MESSAGE_SIZE = 3,  /* and its length */
     LUFFCRINGLE_ITEM_OFFER = 4,         /* where the offer stands, likewise */
-    LUFFCRINGLE_ITEM_OFFER_SIZE = 5
+    LUFFCRINGLE_ITEM_OFFER_SIZE = 5,
+    LUFFCRINGLE_ITEM_FITS = 6,          /* the keying verdict: 1 where the KEY fits, with every other value it does not */
+    LUFFCRINGLE_ITEM_RECORD = 7,        /* where the lent KEY record stands, as the message */
+    LUFFCRINGLE_ITEM_RECORD_SIZE = 8
 };
 
 /* Batch: up to 64 messages in one call, for a queue. The first `count` items are taken in order, each as luffcringle_message would take it at the
- * item's own time, on the table that the item before left, refused or not. `octets` hold all messages and offers; items may share octets, and octets
- * may be in no item. Lend all 64 items and answers always: items from `count` on are not read, and their answers stay as they are.
+ * item's own time, on the table that the item before left, refused or not. `octets` hold all messages, offers and records; items may share octets,
+ * and octets may be in no item. Lend all 64 items and answers always: items from `count` on are not read, and their answers stay as they are.
  *
  * DONE: each item's answer says what luffcringle_message would have answered, a refusal of that item included. The replies lie one after another in
  * `replies`, each as long as its answer says: the first begins at 0, the next where that one ends. An item is lent the room that is left; a refused
  * item takes none, so that a shorter reply may still be written behind one that had no room. There is no room between replies: copy one out to append
  * its TSIG.
  *
- * Refused whole with TABLE, then with BATCH: count is over 64, or a message or an offer is not inside the octets. It is inside where its first place
- * and its length, added without bound, are at most octets_length; so a part of no octets may stand at the end, but not
- * past it. Then no item is judged,
- * and nothing that is lent changes, the clock included.
+ * Refused whole with TABLE, then with BATCH: count is over 64, or a message, an offer or a record is not inside the octets. It is inside where its
+ * first place and its length, added without bound, are at most octets_length; so a part of no octets may stand at the end, but not past it. Then no
+ * item is judged, and nothing that is lent changes, the clock included.
  *
  * All verdicts are given before the first item is judged: a look before the batch does not find a key that an item of the batch adopts. Leave the
  * messages that such a key signs to the next batch. */

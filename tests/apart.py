@@ -8,7 +8,8 @@ import re, subprocess, sys
 OTHERS = b'hold renewal adoption deletion note reply keys digest-request digest-reply finish read-back remove'.split()
 LISTED = (b'clock\t', b'pair\t', b'key\t')
 WORD = rb'[0-9]+'
-BATCH = re.compile(rb'batch %s (-|([0-9a-fA-F]{2})+)( %s (good|bad)( %s){4})*' % (WORD, WORD, WORD))
+BATCH = re.compile(rb'batch %s (-|([0-9a-fA-F]{2})+)( %s (good|bad)( %s){4} (good|bad)( %s){2})*' % (WORD, WORD, WORD, WORD))
+ITEM = 9
 
 
 def replayed(program, lines):
@@ -23,7 +24,7 @@ def number(word):
 
 
 def part(octets, start, size, most):
-    """Octets of the line's hexadecimal. Past `most` an item is refused whatever they are, and a line has no room for them."""
+    """Octets of the line's hexadecimal. Past `most` a message or an offer is refused, and a record is none, whatever they are, and a line has no room for them."""
     return octets[2 * start:2 * (start + min(size, most))] or b'-'
 
 
@@ -32,12 +33,17 @@ def apart(line, ends):
     _, room, octets, *words = line.split(b' ')
     octets = b'' if octets == b'-' else octets
     left = min(number(room), 100000)
-    for item, end in zip(zip(*[iter(words)] * 6), ends):
-        time, verdict = item[:2]
-        start, size, offered, count = map(number, item[2:])
-        message, offer = part(octets, start, size, 65536), part(octets, offered, count, 1025)
-        yield b' '.join([b'message', time, verdict, offer, b'%d' % left, message])
+    for item, end in zip(zip(*[iter(words)] * ITEM), ends):
+        time, verdict, fits = item[0], item[1], item[6]
+        start, size, offered, count, lent, length = spans(item)
+        message, offer, record = part(octets, start, size, 65536), part(octets, offered, count, 1025), part(octets, lent, length, 65801)
+        yield b' '.join([b'message', time, verdict, offer, b'%d' % left, message, fits, record])
         left -= int(end.split(b' ')[1])
+
+
+def spans(item):
+    """First place and size of an item's message, offer and record."""
+    return [number(word) for word in item[2:6] + item[7:]]
 
 
 def reads(line):
@@ -49,8 +55,8 @@ def told(line):
     """The number and the count that a batch begins with."""
     _, _, octets, *words = line.split(b' ')
     held = 0 if octets == b'-' else len(octets) // 2
-    items = [[number(word) for word in words[at + 2:at + 6]] for at in range(0, len(words), 6)]
-    fit = len(items) <= 64 and all(a + b <= held and c + d <= held for a, b, c, d in items)
+    items = [spans(words[at:at + ITEM]) for at in range(0, len(words), ITEM)]
+    fit = len(items) <= 64 and all(first + size <= held for item in items for first, size in zip(item[::2], item[1::2]))
     return (b'0', len(items)) if fit else (b'17', 0)
 
 

@@ -28,7 +28,7 @@ struct octets {
 static struct luffcringle_table table;
 static uint64_t answer[LUFFCRINGLE_ANSWER_WORDS], items[LUFFCRINGLE_ITEMS_WORDS], answers[LUFFCRINGLE_ANSWERS_WORDS];
 static uint8_t reply[MOST_ROOM], replies[MOST_BATCH_ROOM];
-static struct octets suffix, message, offer;
+static struct octets suffix, message, offer, record;
 
 /* ---- Reading ---- */
 
@@ -103,15 +103,18 @@ static bool read_verdict(struct word w, bool *good) {
     return *good || is(w, "bad");
 }
 
-/* The six words of an item. */
+/* The nine words of an item. */
 static bool read_item(const struct word *w, uint64_t *item) {
-    bool good;
-    if (!read_verdict(w[LUFFCRINGLE_ITEM_GOOD], &good))
-        return false;
-    for (int i = 0; i < LUFFCRINGLE_ITEM_WORDS; i++)
-        if (i != LUFFCRINGLE_ITEM_GOOD && !read_number(w[i], item + i))
+    for (int i = 0; i < LUFFCRINGLE_ITEM_WORDS; i++) {
+        bool verdict;
+        if (i != LUFFCRINGLE_ITEM_GOOD && i != LUFFCRINGLE_ITEM_FITS) {
+            if (!read_number(w[i], item + i))
+                return false;
+        } else if (read_verdict(w[i], &verdict))
+            item[i] = verdict;
+        else
             return false;
-    item[LUFFCRINGLE_ITEM_GOOD] = good;
+    }
     return true;
 }
 
@@ -210,15 +213,26 @@ static bool call_look(const struct word *w) {
     return true;
 }
 
-static bool call_message(const struct word *w) {
+static bool judge(const struct word *w, bool fits) {
     uint64_t time, room;
     bool good;
     if (!read_number(w[1], &time) || !read_verdict(w[2], &good) || !read_octets(w[3], &offer) || !read_number(w[4], &room) ||
         !read_octets(w[5], &message))
         return false;
-    luffcringle_message(table.words, table.suffixes, time, good, message.octet, message.length, offer.octet, offer.length, reply,
-                        room < MOST_ROOM ? (size_t)room : MOST_ROOM, answer);
+    luffcringle_message(table.words, table.suffixes, time, good, message.octet, message.length, offer.octet, offer.length, fits, record.octet,
+                        record.length, reply, room < MOST_ROOM ? (size_t)room : MOST_ROOM, answer);
     return true;
+}
+
+/* The short line: no KEY fits, and no record is lent. */
+static bool call_message(const struct word *w) {
+    record.length = 0;
+    return judge(w, false);
+}
+
+static bool call_long_message(const struct word *w) {
+    bool fits;
+    return read_verdict(w[6], &fits) && read_octets(w[7], &record) && judge(w, fits);
 }
 
 /* Of more than 64 items the count alone is told, but all must read. */
@@ -244,8 +258,8 @@ static const struct {
     size_t words;
     bool (*call)(const struct word *);
 } calls[] = {
-    {"new", 2, call_new},       {"enrol", 6, call_enrol}, {"issue", 4, call_issue},
-    {"revoke", 3, call_revoke}, {"look", 2, call_look},   {"message", 6, call_message},
+    {"new", 2, call_new},   {"enrol", 6, call_enrol},     {"issue", 4, call_issue},          {"revoke", 3, call_revoke},
+    {"look", 2, call_look}, {"message", 6, call_message}, {"message", 8, call_long_message},
 };
 
 static bool run_line(const char *line, size_t length) {

@@ -15,7 +15,7 @@
 #include "luffcringle.h"
 
 enum { FILL = 0xa5, STACK = 1 << 20, ORDINARY = 4096, MOST = 20480, MESSAGE = 65535, NOW = 1000 };
-enum { RENEWAL = 4098, ADOPTION = 4100 };
+enum { DIFFIE_HELLMAN = 4097, BY_SERVER = 4098, BY_RESOLVER = 4099, ADOPTION = 4100 };
 enum { COUNT = 1, MAP = 3, ROWS = 67, ROW_WORDS = 16, NEXT_SERIAL = 4, KEYS = 5, ADOPTED = 6 };
 
 static uint8_t stack[STACK] __attribute__((aligned(64))), message[MESSAGE], reply[MESSAGE];
@@ -27,6 +27,8 @@ static ucontext_t here, there;
 
 /* The first pair's suffix, which is the generator's, and one that is not enrolled. */
 static const uint8_t suffix[] = {1, 'a', 0}, other[] = {3, 'a', 'a', 'a', 0}, offer[] = {0xde, 0xad, 0xbe, 0xef};
+/* The server's own KEY, for renewals by Diffie-Hellman. */
+static const uint8_t record[] = {1, 's', 0, 0, 25, 0, 1, 0, 0, 0, 0, 0, 4, 2, 0, 3, 2};
 
 /* ---- The calls, each on the table as it is then ---- */
 
@@ -37,7 +39,8 @@ static void issue(void) { luffcringle_issue(table.words, table.suffixes, NOW, 1,
 static void revoke_early(void) { luffcringle_revoke(table.words, table.suffixes, NOW, 1, answer); }
 static void look(void) { luffcringle_look(table.words, table.suffixes, message, size, answer); }
 static void judge(void) {
-    luffcringle_message(table.words, table.suffixes, NOW, true, message, size, offer, sizeof offer, reply, sizeof reply, answer);
+    luffcringle_message(table.words, table.suffixes, NOW, true, message, size, offer, sizeof offer, true, record, sizeof record, reply, sizeof reply,
+                        answer);
 }
 
 /* 64 items with the same message; the last one's answer is looked at. */
@@ -141,9 +144,9 @@ static void update(void) {
     put_all("\7counter", 8), point(12), front(1, 1, 4), put_all("\300\0\2\1", 4), sign();
 }
 
-static void renewal(void) {
+static void renewal(size_t mode) {
     head(0, 1, 0, 0, 3), put_all("\1q", 3), put16(249), put16(255);
-    put_all("\3new", 5), tkey(RENEWAL), put_all("\6client", 8), key(), sign();
+    put_all("\3new", 5), tkey(mode), put_all("\6client", 8), key(), sign();
 }
 
 static void adoption(void) {
@@ -202,7 +205,7 @@ int main(int argc, char **argv) {
     if (argc != 4) return fputs("stack CHAIN RECORDS QUESTIONS\n", stderr), 2;
     enrol_all(63), almost = table;
     enrol_all(64), full = table;
-    renewal(), judge(), renewed = table;
+    renewal(BY_SERVER), judge(), renewed = table;
     base = taken(nothing);
     printf("%-72s %6zu octets\n", "(makecontext)", base);
     show("new table", &full, make_new, is_empty, MOST);
@@ -213,9 +216,11 @@ int main(int argc, char **argv) {
     show("look", &full, look, is_signed, MOST);
     show("message: an ordinary update", &full, judge, is_signed, ORDINARY);
     fill_queue(), show("batch: 64 of them", &full, queue, is_signed, MOST);
-    renewal(), show("message: a renewal that is granted", &full, judge, is_granted, MOST);
+    renewal(DIFFIE_HELLMAN), show("message: a renewal by Diffie-Hellman that is granted", &full, judge, is_granted, MOST);
+    renewal(BY_SERVER), show("message: a renewal by server assignment that is granted", &full, judge, is_granted, MOST);
+    renewal(BY_RESOLVER), show("message: a renewal by resolver assignment that is granted", &full, judge, is_granted, MOST);
     adoption(), show("message: an adoption", &renewed, judge, is_adopted, MOST);
-    deepest(RENEWAL), show("message: a renewal that is granted, the deepest names of TKEY and KEY", &full, judge, is_granted_long, MOST);
+    deepest(DIFFIE_HELLMAN), show("message: a renewal that is granted, the deepest names of TKEY and KEY", &full, judge, is_granted_long, MOST);
     deepest(ADOPTION), show("message: an adoption of the deepest name, which is no key's", &full, judge, is_replied_long, MOST);
     show_generated("message: a name at the end of the longest chain of pointers", argv[1]);
     show_generated("message: full of records with such names", argv[2]);

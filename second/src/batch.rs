@@ -1,6 +1,7 @@
-//! Several messages in one call. CR 4.
+//! Several messages in one call. CR 4; CR 10.
 
 use crate::calls::{self, ensure, Done, Refusal};
+use crate::judging::Given;
 use crate::table::Table;
 
 /// The most items of a batch.
@@ -32,6 +33,26 @@ pub struct Item {
     pub good: bool,
     pub message: Span,
     pub offer: Span,
+    /// The keying verdict.
+    pub fits: bool,
+    /// The lent KEY record.
+    pub record: Span,
+}
+
+impl Item {
+    /// Its message and what is given with it, if all of it is inside the lent
+    /// octets.
+    fn parts<'a>(&self, lent: &'a [u8]) -> Option<(&'a [u8], Given<'a>)> {
+        let message = self.message.part(lent)?;
+        let given = Given {
+            time: self.time,
+            good: self.good,
+            offer: self.offer.part(lent)?,
+            fits: self.fits,
+            record: self.record.part(lent)?,
+        };
+        Some((message, given))
+    }
 }
 
 /// CR 4: the items in order, each a message call that is lent the room left.
@@ -45,21 +66,15 @@ pub fn batch(
 ) -> Result<Vec<Result<Done, Refusal>>, Refusal> {
     ensure(table.keeps_rules(), Refusal::Table)?;
     ensure(items.len() <= MOST_ITEMS, Refusal::Batch)?;
-    let parts = items.iter().map(|item| parts_of(item, lent));
-    let parts: Option<Vec<_>> = parts.collect();
+    let parts: Option<Vec<_>> = items.iter().map(|item| item.parts(lent)).collect();
     let parts = parts.ok_or(Refusal::Batch)?;
     let mut left = replies;
     let mut results = Vec::with_capacity(items.len());
-    for (item, (message, offer)) in items.iter().zip(parts) {
-        let result = calls::message(table, item.time, item.good, message, offer, left);
+    for (message, given) in parts {
+        let result = calls::message(table, &given, message, left);
         let length = result.map_or(0, |done| done.length);
         left = &mut left[length..];
         results.push(result);
     }
     Ok(results)
-}
-
-/// An item's message and offer, if both are inside the lent octets.
-fn parts_of<'a>(item: &Item, lent: &'a [u8]) -> Option<(&'a [u8], &'a [u8])> {
-    Some((item.message.part(lent)?, item.offer.part(lent)?))
 }

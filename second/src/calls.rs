@@ -1,15 +1,15 @@
 //! The six calls. 01 "The desk's business" and "Numbers a caller sees".
 
-use crate::judging::{self, Case, Denial, Outcome, Ruling, Signer};
+use crate::judging::{self, Case, Denial, Given, Grant, Outcome, Ruling, Signer};
 use crate::names::{self, Place};
 use crate::reply;
 use crate::table::{are_terms, Algorithm, Keys, Pair, Table, MOST_PAIRS, SERIAL_LIMIT};
-use crate::wire::Message;
+use crate::wire::{self, Message, Scheme};
 
 /// The first time that is refused.
 pub const TIME_LIMIT: u64 = (1 << 48) - (1 << 31);
 
-/// The refusals of 01's table, and CR 4's.
+/// The refusals of 01's table, and those of CR 4 and CR 10.
 #[derive(Clone, Copy, Debug, PartialEq, Eq)]
 pub enum Refusal {
     Table,
@@ -29,10 +29,11 @@ pub enum Refusal {
     Twin,
     Full,
     Batch,
+    KeyRec,
 }
 
 impl Refusal {
-    /// 01 "Numbers a caller sees", and CR 4.
+    /// 01 "Numbers a caller sees", CR 4 and CR 10.
     pub fn number(self) -> u8 {
         match self {
             Refusal::Table => 1,
@@ -51,6 +52,7 @@ impl Refusal {
             Refusal::Twin => 14,
             Refusal::Full => 15,
             Refusal::Batch => 17,
+            Refusal::KeyRec => 19,
         }
     }
 
@@ -167,28 +169,19 @@ pub fn look(table: &Table, octets: &[u8]) -> Result<Done, Refusal> {
     Ok(Done::with_signer(signer))
 }
 
-/// 01 "The desk's business", message: `good` is the verdict on the MAC, `offer`
-/// the offered key data. A reply fills the first octets of `reply`; a refusal
-/// writes nothing.
+/// 01 "The desk's business", message. A reply fills the first octets of
+/// `reply`; a refusal writes nothing.
 pub fn message(
     table: &mut Table,
-    time: u64,
-    good: bool,
+    given: &Given,
     octets: &[u8],
-    offer: &[u8],
     reply: &mut [u8],
 ) -> Result<Done, Refusal> {
-    open(table, time)?;
+    open(table, given.time)?;
     ensure(is_sized(octets), Refusal::Size)?;
-    ensure(offer.len() <= 1024, Refusal::Offer)?;
+    ensure(given.offer.len() <= 1024, Refusal::Offer)?;
     let message = &read_query(octets)?;
-    let case = Case {
-        time,
-        good,
-        message,
-        offer,
-    };
-    let (signer, ruling) = judging::judge(table, &case);
+    let (signer, ruling) = judging::judge(table, &Case { given, message });
     let mut done = Done::with_signer(signer);
     match ruling {
         Ok(Ruling::PassUp { skew }) => done.skew = skew,
@@ -198,22 +191,38 @@ pub fn message(
             done.error = error;
         }
         Ok(Ruling::Tkey(index, mut tkey, outcome)) => {
+            let lent = answered_record(&outcome, given.record)?;
             let pair = &mut table.pairs[index];
-            reply::answer(&mut tkey, &outcome, &pair.suffix, offer);
-            let length = reply::write_outcome(message, &tkey, &outcome, reply);
+            reply::answer(&mut tkey, &outcome, &pair.suffix, given.offer);
+            let length = reply::write_outcome(message, &tkey, &outcome, lent, reply);
             done.length = length.ok_or(Refusal::Room)?;
-            change_keys(pair, &outcome, time);
+            change_keys(pair, &outcome, given.time);
         }
     }
     Ok(done)
 }
 
+/// CR 10: the lent record that the answer to this outcome takes, if any; else
+/// KEYREC where it must be one KEY record and is not.
+fn answered_record<'a>(outcome: &Outcome, record: &'a [u8]) -> Result<Option<&'a [u8]>, Refusal> {
+    match outcome {
+        Outcome::Renewed(Grant {
+            scheme: Scheme::DiffieHellman,
+            ..
+        }) => {
+            ensure(wire::is_key_record(record), Refusal::KeyRec)?;
+            Ok(Some(record))
+        }
+        _ => Ok(None),
+    }
+}
+
 /// 01 "Renewal", "Adoption" and "Deletion": what happens to the keys, after
-/// the reply had room.
+/// the reply had room. It is the same in all schemes of a renewal (CR 10).
 fn change_keys(pair: &mut Pair, outcome: &Outcome, time: u64) {
     match outcome {
         Outcome::Failed(_) | Outcome::AlreadyAdopted => (),
-        Outcome::Renewed(waiting, _) => pair.renew(*waiting, time),
+        Outcome::Renewed(grant) => pair.renew(grant.waiting, time),
         Outcome::Adopted => pair.adopt(),
         Outcome::Deleted => pair.delete(),
         Outcome::WaitingDeleted => pair.delete_waiting(),

@@ -1,9 +1,9 @@
-//! Judging. 01 "Judging, first that applies"; RFC 8945 §5.2, 002 §2.1 to §2.5.
-//! Nothing is changed here.
+//! Judging. 01 "Judging, first that applies"; RFC 8945 §5.2, 002 §2.1 to §2.5,
+//! CR 10. Nothing is changed here.
 
 use crate::names;
 use crate::table::{Algorithm, Key, Pair, Table, SERIAL_LIMIT};
-use crate::wire::{Found, Message, OldKey, Record, Task, Tkey, Tsig};
+use crate::wire::{Found, Message, OldKey, Record, Scheme, Task, Tkey, Tsig};
 
 // RCODEs (RFC 1035 §4.1.1, RFC 8945 §3); 1 and 2 are TKEY errors too.
 const FORMERR: u16 = 1;
@@ -22,12 +22,35 @@ pub const PARTIAL_REVOKE: u16 = 3841;
 
 /// What a message call takes beside the table and the reply buffer.
 pub struct Case<'c, 'a> {
+    pub given: &'c Given<'a>,
+    pub message: &'c Message<'a>,
+}
+
+/// What the caller of a message call gives with the message.
+#[derive(Clone, Copy, Debug, PartialEq, Eq)]
+pub struct Given<'a> {
     pub time: u64,
     /// The verdict on the MAC.
     pub good: bool,
-    pub message: &'c Message<'a>,
     /// The offered key data.
     pub offer: &'a [u8],
+    /// CR 10, the keying verdict: whether the request's KEY fits.
+    pub fits: bool,
+    /// CR 10, the lent KEY record.
+    pub record: &'a [u8],
+}
+
+impl<'a> Given<'a> {
+    /// No KEY fits, and no record is lent: server assignment needs neither.
+    pub fn new(time: u64, good: bool, offer: &'a [u8]) -> Given<'a> {
+        Given {
+            time,
+            good,
+            offer,
+            fits: false,
+            record: &[],
+        }
+    }
 }
 
 /// The key that a TSIG gives, and the index of its pair.
@@ -62,13 +85,22 @@ pub enum Ruling<'a> {
 pub enum Outcome<'a> {
     /// A TKEY error.
     Failed(u16),
-    /// A new waiting key; the KEY record of the request is echoed.
-    Renewed(Key, Record<'a>),
+    Renewed(Grant<'a>),
     Adopted,
     /// The adopted key was asked for: no change.
     AlreadyAdopted,
     Deleted,
     WaitingDeleted,
+}
+
+/// 01 "Renewal": a renewal that is granted.
+#[derive(Clone, Copy, Debug)]
+pub struct Grant<'a> {
+    pub scheme: Scheme,
+    /// The new waiting key.
+    pub waiting: Key,
+    /// The KEY record of the request, which is echoed.
+    pub echo: Record<'a>,
 }
 
 /// 01 "Judging": RCODE, and a TSIG error or 0.
@@ -116,7 +148,7 @@ fn authenticate<'a>(
         Ok(Some(tsig)) => tsig,
     };
     match find_signer(table, &tsig) {
-        Some(signer) if signer.key.is_in_force(case.time) => Ok(Some((signer, tsig))),
+        Some(signer) if signer.key.is_in_force(case.given.time) => Ok(Some((signer, tsig))),
         _ => deny(NOTAUTH, BADKEY),
     }
 }
@@ -127,10 +159,10 @@ fn check_signature(case: &Case, key: &Key, tsig: &Tsig) -> Result<(), Denial> {
     if tsig.mac.len() > output || tsig.mac.len() < output / 2 {
         return deny(FORMERR, 0);
     }
-    if !case.good {
+    if !case.given.good {
         return deny(NOTAUTH, BADSIG);
     }
-    if tsig.time_signed.abs_diff(case.time) > u64::from(tsig.fudge) {
+    if tsig.time_signed.abs_diff(case.given.time) > u64::from(tsig.fudge) {
         return deny(NOTAUTH, BADTIME);
     }
     Ok(())
@@ -149,18 +181,21 @@ fn judge_signed<'a>(
         return deny(FORMERR, 0);
     }
     let task = tkey.as_ref().map(|tkey| tkey.task);
-    let may_be_late = matches!(task, Some(Task::Renewal(_) | Task::Adoption(_)));
-    if case.time >= signer.key.partial && !may_be_late {
+    let may_be_late = matches!(task, Some(Task::Renewal(..) | Task::Adoption(_)));
+    if case.given.time >= signer.key.partial && !may_be_late {
         return deny(NOTAUTH, PARTIAL_REVOKE);
     }
     let Some(tkey) = tkey else {
-        let skew = skew(tsig.time_signed, case.time);
+        let skew = skew(tsig.time_signed, case.given.time);
         return Ok(Ruling::PassUp { skew });
     };
     let pair = &table.pairs[signer.index];
     let outcome = match tkey.task {
         Task::Unsupported => Outcome::Failed(BADMODE),
-        Task::Renewal(old) => renewal(case, pair, &signer.key, &tkey, old),
+        Task::Renewal(scheme, old) => match renewal(case, pair, &signer.key, &tkey, scheme, old) {
+            Ok(grant) => Outcome::Renewed(grant),
+            Err(error) => Outcome::Failed(error),
+        },
         Task::Adoption(old) => adoption(pair, &signer.key, &tkey, old),
         Task::Deletion => deletion(pair, &signer.key, &tkey),
     };
@@ -180,30 +215,53 @@ fn is_good_interval(inception: u32, expiration: u32) -> bool {
     forward != 0 && forward < RING / 2
 }
 
-/// 01 "Renewal"; 002 §2.3 and §2.5.2.
+/// 01 "Renewal"; 002 §2.3 and §2.5, CR 10: one rule for the three schemes, or
+/// the first TKEY error.
 fn renewal<'a>(
     case: &Case<'_, 'a>,
     pair: &Pair,
     signing: &Key,
     tkey: &Tkey,
+    scheme: Scheme,
     old: OldKey,
-) -> Outcome<'a> {
+) -> Result<Grant<'a>, u16> {
     if !pair.is_key(signing, old.name, old.algorithm) {
-        return Outcome::Failed(BADKEY);
+        return Err(BADKEY);
     }
-    let Found::One(key_record) = case.message.keys else {
-        return Outcome::Failed(FORMERR);
+    let Found::One(echo) = case.message.keys else {
+        return Err(FORMERR);
     };
-    let Some(algorithm) = Algorithm::from_name(tkey.algorithm) else {
-        return Outcome::Failed(BADALG);
-    };
+    check_keying(scheme, case.given.fits)?;
+    let algorithm = Algorithm::from_name(tkey.algorithm).ok_or(BADALG)?;
     if !is_good_interval(tkey.inception, tkey.expiration) {
-        return Outcome::Failed(BADTIME);
+        return Err(BADTIME);
     }
-    if pair.next_serial >= SERIAL_LIMIT || case.offer.is_empty() {
-        return Outcome::Failed(SERVFAIL);
+    let lacks_offer = uses_offer(scheme) && case.given.offer.is_empty();
+    if pair.next_serial >= SERIAL_LIMIT || lacks_offer {
+        return Err(SERVFAIL);
     }
-    Outcome::Renewed(pair.next_key(algorithm, case.time), key_record)
+    Ok(Grant {
+        scheme,
+        waiting: pair.next_key(algorithm, case.given.time),
+        echo,
+    })
+}
+
+/// CR 10: a KEY that does not fit is an incompatible public key (002 §2.5.1),
+/// or one whose private key we have not (002 §2.5.3). In server assignment it
+/// is not looked at.
+fn check_keying(scheme: Scheme, fits: bool) -> Result<(), u16> {
+    match scheme {
+        Scheme::DiffieHellman if !fits => Err(BADKEY),
+        Scheme::ResolverAssigned if !fits => Err(FORMERR),
+        _ => Ok(()),
+    }
+}
+
+/// CR 10: whether the offer is the reply's key data, as the server's nonce or
+/// its secret. A resolver brings its own.
+pub fn uses_offer(scheme: Scheme) -> bool {
+    scheme != Scheme::ResolverAssigned
 }
 
 /// 01 "Adoption"; 002 §2.4. The signing key is the adopted one.

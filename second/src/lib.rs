@@ -11,7 +11,8 @@
 //! `resolver` is the other half of the protocol (CR 1): it writes the requests
 //! and reads the replies. `signing` has the octets under a MAC, and puts a TSIG
 //! on and takes it off (CR 3); it knows no key. `batch` makes several message
-//! calls in one (CR 4).
+//! calls in one (CR 4). A renewal has one of three schemes (CR 10); the resolver
+//! here asks for server assignment alone.
 #![forbid(unsafe_code)]
 
 pub mod batch;
@@ -27,5 +28,6 @@ mod wire;
 
 pub use batch::batch;
 pub use calls::{enrol, issue, look, message, new, revoke, Done, Refusal};
+pub use judging::Given;
 pub use table::{Algorithm, Key, Keys, Pair, Table};
 pub use wire::Tsig;

@@ -1,6 +1,7 @@
-//! Replies. 01 "The reply"; RFC 1035 §4.1.1, RFC 2930 §2, 002 §2.4.2, §2.5.2.
+//! Replies. 01 "The reply"; RFC 1035 §4.1.1, RFC 2930 §2, 002 §2.4.2, §2.5;
+//! CR 10.
 
-use crate::judging::Outcome;
+use crate::judging::{uses_offer, Outcome};
 use crate::names::Name;
 use crate::wire::{Message, Tkey, ANY, TKEY};
 
@@ -11,22 +12,25 @@ pub fn write_denial(message: &Message, rcode: u16, reply: &mut [u8]) -> Option<u
 }
 
 /// 01 "The reply": the TKEY record in the answer section and, for a granted
-/// renewal, the KEY record in the additional section.
+/// renewal, the KEY record in the additional section. CR 10: the lent record,
+/// if any, follows the TKEY.
 pub fn write_outcome(
     message: &Message,
     tkey: &Tkey,
     outcome: &Outcome,
+    lent: Option<&[u8]>,
     reply: &mut [u8],
 ) -> Option<usize> {
     // Data too long for RDLENGTH makes the reply too long as well.
     let data_size = tkey.algorithm.len() + 16 + tkey.key_data.len() + tkey.other_data.len();
     let data_size = u16::try_from(data_size).ok()?;
     let (key_owner, key_rest) = match outcome {
-        Outcome::Renewed(_, record) => (record.owner(), record.after_owner),
+        Outcome::Renewed(grant) => (grant.echo.owner(), grant.echo.after_owner),
         _ => (None, &[][..]),
     };
-    let pieces: [&[u8]; 18] = [
-        &header(message, 0, 1, u16::from(key_owner.is_some())),
+    let answers = 1 + u16::from(lent.is_some());
+    let pieces: [&[u8]; 19] = [
+        &header(message, 0, answers, u16::from(key_owner.is_some())),
         message.questions,
         tkey.name.octets(),
         &TKEY.to_be_bytes(),
@@ -42,6 +46,7 @@ pub fn write_outcome(
         tkey.key_data,
         &(tkey.other_data.len() as u16).to_be_bytes(),
         tkey.other_data,
+        lent.unwrap_or(&[]),
         key_owner.as_ref().map_or(&[], Name::octets),
         key_rest,
     ];
@@ -49,17 +54,20 @@ pub fn write_outcome(
 }
 
 /// 01 "The reply": makes the request's TKEY the reply's. A granted renewal
-/// replaces NAME, the times (mod 2^32) and key data; an adoption of the adopted
-/// key empties other data (002 §2.4.2, ruling 1); all else stays.
+/// replaces NAME, the times (mod 2^32) and, unless the resolver assigns it, key
+/// data; an adoption of the adopted key empties other data (002 §2.4.2, ruling
+/// 1); all else stays.
 pub fn answer<'a>(tkey: &mut Tkey<'a>, outcome: &Outcome, suffix: &[u8], offer: &'a [u8]) {
     tkey.error = 0;
     match outcome {
         Outcome::Failed(error) => tkey.error = *error,
-        Outcome::Renewed(waiting, _) => {
-            tkey.name = Name::of_key(waiting.serial, suffix);
-            tkey.inception = waiting.inception as u32;
-            tkey.expiration = waiting.expiry as u32;
-            tkey.key_data = offer;
+        Outcome::Renewed(grant) => {
+            tkey.name = Name::of_key(grant.waiting.serial, suffix);
+            tkey.inception = grant.waiting.inception as u32;
+            tkey.expiration = grant.waiting.expiry as u32;
+            if uses_offer(grant.scheme) {
+                tkey.key_data = offer;
+            }
         }
         Outcome::AlreadyAdopted => tkey.other_data = &[],
         Outcome::Adopted | Outcome::Deleted | Outcome::WaitingDeleted => (),

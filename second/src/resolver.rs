@@ -79,7 +79,7 @@ impl Asked {
     fn mode(self) -> Option<u16> {
         match self {
             Asked::Ordinary => None,
-            Asked::Renewal => Some(wire::RENEWAL),
+            Asked::Renewal => Some(wire::RENEWAL_BY_SERVER),
             Asked::Adoption => Some(wire::ADOPTION),
             Asked::Deletion => Some(wire::DELETION),
         }
@@ -163,7 +163,7 @@ impl Resolver {
             algorithm: wish.algorithm,
             inception: wish.inception,
             expiration: wish.expiration,
-            mode: wire::RENEWAL,
+            mode: wire::RENEWAL_BY_SERVER,
             other_data: adopted.as_old(),
         };
         let octets = question.octets(id, wish.key_record);

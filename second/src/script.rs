@@ -5,6 +5,7 @@ use std::io::{self, BufRead, Read, Write};
 
 use crate::batch::{self, Item, Span};
 use crate::calls::{self, Done, Refusal};
+use crate::judging::Given;
 use crate::resolver::{self, Asked, Resolver, Which, Wish, Written};
 use crate::signing::{self, Fields};
 use crate::table::{Algorithm, Key, Table};
@@ -115,24 +116,43 @@ impl Runner {
             }
             [b"revoke", time, pair] => calls::revoke(table, number(time)?, number(pair)?),
             [b"look", message] => calls::look(table, &octets(message)?),
-            [b"message", time, verdict, offer, room, message] => calls::message(
-                table,
-                number(time)?,
-                is_good(verdict)?,
-                &octets(message)?,
-                &octets(offer)?,
-                lent(&mut self.buffer, room, MOST_ROOM)?,
-            ),
+            [b"message", ref words @ ..] => return self.message(words),
             _ => return None,
         })
     }
 
-    /// SCRIPT.md, the batch's line: six words for each item.
+    /// SCRIPT.md, the message's line. The short one ends as with `bad -`
+    /// (CR 10).
+    fn message(&mut self, words: &[&[u8]]) -> Option<CallResult> {
+        let (words, [fits, record]) = match words.split_last_chunk() {
+            Some((short, last)) if short.len() == 5 => (short, *last),
+            _ => (words, [&b"bad"[..], b"-"]),
+        };
+        let &[time, verdict, offer, room, message] = words else {
+            return None;
+        };
+        let given = Given {
+            time: number(time)?,
+            good: is_good(verdict)?,
+            offer: &octets(offer)?,
+            fits: is_good(fits)?,
+            record: &octets(record)?,
+        };
+        let reply = lent(&mut self.buffer, room, MOST_ROOM)?;
+        Some(calls::message(
+            &mut self.table,
+            &given,
+            &octets(message)?,
+            reply,
+        ))
+    }
+
+    /// SCRIPT.md, the batch's line: nine words for each item (CR 10).
     fn batch(&mut self, words: &[&[u8]]) -> Option<Result<Vec<CallResult>, Refusal>> {
         let [b"batch", room, lent_octets, ref items @ ..] = *words else {
             return None;
         };
-        let items: Option<Vec<Item>> = items.chunks(6).map(item).collect();
+        let items: Option<Vec<Item>> = items.chunks(9).map(item).collect();
         let (items, lent_octets) = (items?, octets(lent_octets)?);
         let replies = lent(&mut self.buffer, room, MOST_LONG_ROOM)?;
         Some(batch::batch(&mut self.table, &lent_octets, &items, replies))
@@ -287,9 +307,11 @@ fn read_back_line(words: &[&[u8]]) -> Option<Vec<u8>> {
     }
 }
 
-/// SCRIPT.md: an item of a batch, which has exactly six words.
+/// SCRIPT.md: an item of a batch, which has exactly nine words.
 fn item(words: &[&[u8]]) -> Option<Item> {
-    let [time, verdict, from, size, offer_from, offer_size] = *words else {
+    let [time, verdict, from, size, offer_from, offer_size, fits, record_from, record_size] =
+        *words
+    else {
         return None;
     };
     Some(Item {
@@ -297,6 +319,8 @@ fn item(words: &[&[u8]]) -> Option<Item> {
         good: is_good(verdict)?,
         message: span(from, size)?,
         offer: span(offer_from, offer_size)?,
+        fits: is_good(fits)?,
+        record: span(record_from, record_size)?,
     })
 }
 
@@ -306,7 +330,7 @@ fn span(from: &[u8], size: &[u8]) -> Option<Span> {
     Some(Span { from, size })
 }
 
-/// SECOND.md: the verdict, in lower case only.
+/// SECOND.md: a verdict, in lower case only.
 fn is_good(word: &[u8]) -> Option<bool> {
     match word {
         b"good" => Some(true),

@@ -8,9 +8,11 @@ pub const TKEY: u16 = 249;
 pub const TSIG: u16 = 250;
 pub const ANY: u16 = 255;
 
-// TKEY modes (01 "Reading").
+// TKEY modes (01 "Reading", CR 10).
 pub const DELETION: u16 = 5;
-pub const RENEWAL: u16 = 4098;
+pub const RENEWAL_BY_DIFFIE_HELLMAN: u16 = 4097;
+pub const RENEWAL_BY_SERVER: u16 = 4098;
+pub const RENEWAL_BY_RESOLVER: u16 = 4099;
 pub const ADOPTION: u16 = 4100;
 
 /// Octets read from the front; `None` where one is missing.
@@ -288,7 +290,7 @@ impl<'a> Message<'a> {
 
     /// 01 "Judging" step 6: exactly one TKEY record in the whole message, in
     /// the additional section and well formed. Other data can be ill formed in
-    /// modes 4098 and 4100 only (ruling 5).
+    /// renewals and adoptions only (ruling 5).
     pub fn tkey(&self) -> Option<Tkey<'a>> {
         match self.tkeys {
             Found::One(record) if record.section == Section::Additional => {
@@ -384,24 +386,35 @@ impl<'a> Tkey<'a> {
     }
 }
 
+/// 002 §2.5, CR 10: how both sides come to a renewal's new secret.
+#[derive(Clone, Copy, Debug, PartialEq, Eq)]
+pub enum Scheme {
+    DiffieHellman,
+    ServerAssigned,
+    ResolverAssigned,
+}
+
 /// What a TKEY asks for.
 #[derive(Clone, Copy, Debug)]
 pub enum Task<'a> {
     Deletion,
-    Renewal(OldKey<'a>),
+    Renewal(Scheme, OldKey<'a>),
     Adoption(OldKey<'a>),
     Unsupported,
 }
 
 impl<'a> Task<'a> {
-    /// 01 "Reading", modes.
+    /// 01 "Reading", modes; CR 10.
     fn read(mode: u16, other_data: &'a [u8]) -> Option<Task<'a>> {
-        Some(match mode {
-            DELETION => Task::Deletion,
-            RENEWAL => Task::Renewal(OldKey::read(other_data)?),
-            ADOPTION => Task::Adoption(OldKey::read(other_data)?),
-            _ => Task::Unsupported,
-        })
+        let scheme = match mode {
+            DELETION => return Some(Task::Deletion),
+            ADOPTION => return OldKey::read(other_data).map(Task::Adoption),
+            RENEWAL_BY_DIFFIE_HELLMAN => Scheme::DiffieHellman,
+            RENEWAL_BY_SERVER => Scheme::ServerAssigned,
+            RENEWAL_BY_RESOLVER => Scheme::ResolverAssigned,
+            _ => return Some(Task::Unsupported),
+        };
+        OldKey::read(other_data).map(|old| Task::Renewal(scheme, old))
     }
 }
 
@@ -424,8 +437,8 @@ impl<'a> OldKey<'a> {
     }
 }
 
-/// CR 1: whether these octets are exactly one KEY record, its owner name not
-/// compressed.
+/// CR 1 and CR 10: whether these octets are exactly one KEY record, its owner
+/// name not compressed.
 pub fn is_key_record(octets: &[u8]) -> bool {
     let mut cursor = Cursor::new(octets);
     let mut read = || {

@@ -9,13 +9,13 @@
 #[path = "../tests/support/mod.rs"]
 mod support;
 
-use luffcringle::{Answer, Item, Refusal, Span, Table};
+use luffcringle::{Answer, Given, Item, Refusal, Span, Table};
 use std::hint::black_box;
 use std::path::Path;
 use std::process::Command;
 use std::time::Instant;
 use support::build::{hex, name, record, Draft, Tsig, A, IN, SOA};
-use support::{as_ours, table_of};
+use support::{as_ours, given_to_them, good, table_of};
 
 /// Turns of a short call; one that takes longer gets fewer.
 const MOST_TURNS: usize = 5_001;
@@ -40,7 +40,7 @@ impl Call<'_> {
     fn ours(self, table: &mut Table, reply: &mut [u8]) -> Result<Answer, Refusal> {
         let time = NOW;
         match self {
-            Call::Message(octets) => table.message(time, true, octets, &OFFER, reply),
+            Call::Message(octets) => table.message(&good(time, &OFFER), octets, reply),
             Call::Look(octets) => table.look(octets),
             Call::Enrol(suffix) => table.enrol(time, suffix, TERMS.0, TERMS.1, 256),
             Call::Issue(pair) => table.issue(time, pair, 256),
@@ -55,7 +55,10 @@ impl Call<'_> {
     ) -> Result<second::Done, second::Refusal> {
         let time = NOW;
         match self {
-            Call::Message(octets) => second::message(table, time, true, octets, &OFFER, reply),
+            Call::Message(octets) => {
+                let given = given_to_them(&good(time, &OFFER));
+                second::message(table, &given, octets, reply)
+            }
             Call::Look(octets) => second::look(table, octets),
             Call::Enrol(suffix) => second::enrol(table, time, suffix, TERMS.0, TERMS.1, 256),
             Call::Issue(pair) => second::issue(table, time, pair, 256),
@@ -245,7 +248,7 @@ fn measure_calls(offices: Differ) {
     let table = offices.table(64);
     let mut renewed = table.clone();
     let renewal = offices.renewal();
-    let granted = renewed.message(NOW, true, &renewal, &OFFER, &mut [0; 512]);
+    let granted = renewed.message(&good(NOW, &OFFER), &renewal, &mut [0; 512]);
     granted.expect("granted");
     let update = offices.update(1, NOW);
 
@@ -373,7 +376,7 @@ fn generated(kind: &str) -> Vec<u8> {
     assert!(script.status.success());
     let script = String::from_utf8(script.stdout).expect("a script is text");
     let last = script.lines().rfind(|line| line.starts_with("message"));
-    let mut octets = hex(last.and_then(|line| line.rsplit(' ').next()).expect("one"));
+    let mut octets = hex(last.and_then(|line| line.split(' ').nth(5)).expect("one"));
     // The TSIG's data has 61 octets: the algorithm's name, then the time.
     let time = octets.len() - 61 + 13;
     assert_eq!(octets[time..time + 6], [0, 0, 0, 0, 3, 0xe8]);
@@ -442,6 +445,7 @@ impl Queue {
                 good: true,
                 message: message.into(),
                 offer: offer.into(),
+                ..Item::default()
             }
         });
         let items = items.collect();
@@ -457,8 +461,13 @@ impl Queue {
         let mut used = 0;
         let part = |span: Span| &self.octets[span.from as usize..(span.from + span.size) as usize];
         let call = |item: &Item| {
-            let (message, offer) = (part(item.message), part(item.offer));
-            let answer = table.message(item.time, item.good, message, offer, &mut replies[used..]);
+            let given = Given {
+                time: item.time,
+                good: item.good,
+                offer: part(item.offer),
+                ..Given::default()
+            };
+            let answer = table.message(&given, part(item.message), &mut replies[used..]);
             used += answer.map_or(0, |answer| answer.length as usize);
             answer
         };

@@ -26,7 +26,7 @@ pub type Words = [u64; TABLE_WORDS];
 pub type Octets = [u8; TABLE_OCTETS];
 
 type Told = [u64; 7];
-type ItemWords = [u64; 6];
+type ItemWords = [u64; 9];
 
 // A reference to an array is what C calls a pointer to its first word.
 extern "C" {
@@ -78,6 +78,9 @@ extern "C" {
         message_length: usize,
         offer: *const u8,
         offer_length: usize,
+        fits: bool,
+        record: *const u8,
+        record_length: usize,
         reply: *mut u8,
         reply_room: usize,
         answer: &mut Told,
@@ -135,10 +138,13 @@ pub enum Refusal {
     Full,
     /// A batch has more than 64 items, or one outside the lent octets.
     Batch,
+    /// A renewal by Diffie-Hellman would be granted, but the lent record is not
+    /// exactly one KEY record with an uncompressed owner name.
+    KeyRec,
 }
 
 impl Refusal {
-    fn all(place: usize) -> [Refusal; 16] {
+    fn all(place: usize) -> [Refusal; 17] {
         [
             Refusal::Table,
             Refusal::Time,
@@ -156,6 +162,7 @@ impl Refusal {
             Refusal::Twin,
             Refusal::Full,
             Refusal::Batch,
+            Refusal::KeyRec,
         ]
     }
 
@@ -166,7 +173,7 @@ impl Refusal {
         found.expect("the number of a refusal")
     }
 
-    /// Its number in document 01, 1 to 15; a batch's is 17.
+    /// Its number in document 01, 1 to 15, or in document 02, 17 and 19.
     pub fn number(self) -> u64 {
         match self {
             Refusal::Table => 1,
@@ -185,6 +192,7 @@ impl Refusal {
             Refusal::Twin => 14,
             Refusal::Full => 15,
             Refusal::Batch => 17,
+            Refusal::KeyRec => 19,
         }
     }
 
@@ -224,6 +232,34 @@ pub struct Answer {
     pub serial: u64,
 }
 
+/// What the caller gives with a message. Only renewals look at more than the
+/// time and the verdict on the MAC; for the rest `..Given::default()` will do.
+///
+/// A renewal has one of three modes, and one KEY record:
+///
+/// - 4097, Diffie-Hellman: `fits` says whether the server has a key of the same
+///   group as the office's KEY; `offer` is a nonce, and `record` the server's
+///   own KEY record.
+/// - 4098, server assignment: `offer` is the new secret, encrypted under the
+///   office's KEY.
+/// - 4099, resolver assignment: `fits` says whether the server has the private
+///   key to the KEY, under which the request's key data is encrypted.
+///
+/// The header says more of each.
+#[derive(Clone, Copy, Debug, Default, PartialEq, Eq, Hash)]
+pub struct Given<'a> {
+    /// The time of the call.
+    pub time: u64,
+    /// The verdict on the MAC.
+    pub good: bool,
+    /// The key data for a renewal, 0 to 1024 octets.
+    pub offer: &'a [u8],
+    /// The keying verdict: whether the KEY of a renewal fits.
+    pub fits: bool,
+    /// The KEY record that answers a renewal by Diffie-Hellman.
+    pub record: &'a [u8],
+}
+
 /// Where octets of an item stand among those lent to a batch. A range becomes
 /// one: `(12..40).into()`.
 #[derive(Clone, Copy, Debug, Default, PartialEq, Eq, Hash)]
@@ -244,7 +280,8 @@ impl From<Range<usize>> for Span {
     }
 }
 
-/// One message of a batch: what `Table::message` takes beside the room.
+/// One message of a batch: what `Table::message` takes beside the room. Parts
+/// that it does not need may be of no octets, as they are by default.
 #[derive(Clone, Copy, Debug, Default, PartialEq, Eq, Hash)]
 pub struct Item {
     /// The time of this message.
@@ -255,6 +292,10 @@ pub struct Item {
     pub message: Span,
     /// Where the key data for a renewal stands.
     pub offer: Span,
+    /// The keying verdict.
+    pub fits: bool,
+    /// Where the KEY record for a renewal by Diffie-Hellman stands.
+    pub record: Span,
 }
 
 impl Item {
@@ -266,6 +307,9 @@ impl Item {
             self.message.size,
             self.offer.from,
             self.offer.size,
+            u64::from(self.fits),
+            self.record.from,
+            self.record.size,
         ]
     }
 }
@@ -413,31 +457,31 @@ impl Table {
     }
 
     /// Message: judges a message and writes the reply without its TSIG into
-    /// the first octets of `reply`. `good` is the verdict on the MAC, `offer`
-    /// the key data for a renewal. With length 0 the message is the caller's
+    /// the first octets of `reply`. With length 0 the message is the caller's
     /// to answer; the header says which TSIG a reply needs.
     pub fn message(
         &mut self,
-        time: u64,
-        good: bool,
+        given: &Given,
         message: &[u8],
-        offer: &[u8],
         reply: &mut [u8],
     ) -> Result<Answer, Refusal> {
         let Lent { words, suffixes } = &mut *self.lent;
         let mut answer = Told::default();
-        // SAFETY: message, offer and reply are as long as told, and reply is
-        // borrowed alone.
+        // SAFETY: message, offer, record and reply are as long as told, and
+        // reply is borrowed alone.
         let number = unsafe {
             luffcringle_message(
                 words,
                 suffixes,
-                time,
-                good,
+                given.time,
+                given.good,
                 message.as_ptr(),
                 message.len(),
-                offer.as_ptr(),
-                offer.len(),
+                given.offer.as_ptr(),
+                given.offer.len(),
+                given.fits,
+                given.record.as_ptr(),
+                given.record.len(),
                 reply.as_mut_ptr(),
                 reply.len(),
                 &mut answer,
@@ -447,8 +491,8 @@ impl Table {
     }
 
     /// Batch: up to 64 messages in one call, in order, each as `message` would
-    /// take it at its own time. `octets` hold all messages and offers; items
-    /// may share them.
+    /// take it at its own time. `octets` hold all messages, offers and records;
+    /// items may share them.
     ///
     /// The replies lie one after another in `replies`, each as long as its
     /// item's answer says. An item is lent the room that is left, and a refused

@@ -3,9 +3,9 @@
 
 mod support;
 
-use luffcringle::{Answer, Item, Key, Keys, Octets, Refusal, Span, Table, Words};
+use luffcringle::{Answer, Given, Item, Key, Keys, Octets, Refusal, Span, Table, Words};
 use luffcringle::{MOST_ITEMS, TABLE_OCTETS, TABLE_WORDS};
-use support::build::{name, Draft, FILL};
+use support::build::{key_record, name, Draft, FILL, RENEWALS};
 use support::*;
 
 const A: &str = "a.example.";
@@ -75,13 +75,13 @@ fn offices(count: u64) -> Table {
     table
 }
 
-/// An item of a batch that is lent one message alone, and no offer.
+/// An item of a batch that is lent one message alone.
 fn whole(message: &[u8]) -> Item {
     Item {
         time: 1001,
         good: true,
         message: (0..message.len()).into(),
-        offer: Span::default(),
+        ..Item::default()
     }
 }
 
@@ -100,7 +100,7 @@ fn refused_by_all(table: &Table, what: &str) {
         lent.issue(1001, 1, 256),
         lent.revoke(1001, 1),
         lent.look(&message),
-        lent.message(1001, true, &message, &[5], &mut reply),
+        lent.message(&good(1001, &[5]), &message, &mut reply),
     ];
     assert_eq!(refused, [Err(Refusal::Table); 5], "{what}");
     // Before BATCH, and where there is nothing to do.
@@ -325,8 +325,9 @@ fn a_waiting_key_is_deleted_alone() {
     let mut theirs = table_of(&table);
     let message = Draft::deletion("2.a.example.").signed("1.a.example.", 1200);
     let (mut reply, mut their_reply) = ([FILL; 512], [FILL; 512]);
-    let answer = table.message(1200, true, &message, &[], &mut reply);
-    let expected = second::message(&mut theirs, 1200, true, &message, &[], &mut their_reply);
+    let answer = table.message(&good(1200, &[]), &message, &mut reply);
+    let given = given_to_them(&good(1200, &[]));
+    let expected = second::message(&mut theirs, &given, &message, &mut their_reply);
     assert_eq!(answer, as_ours(expected));
     assert_eq!(reply, their_reply);
     let answer = answer.expect("done");
@@ -335,6 +336,48 @@ fn a_waiting_key_is_deleted_alone() {
     let keys = |table: &Table| table.view().expect("a table").pairs[0].keys;
     assert_eq!(keys(&table), keys(&day()));
     assert_eq!(table_of(&table), theirs);
+}
+
+/// The three schemes, by what is given: both readers do the same, and what is
+/// granted makes the same keys.
+#[test]
+fn a_renewal_of_each_scheme() {
+    let record = &key_record();
+    let mut granted = Vec::new();
+    for mode in RENEWALS {
+        let message = Draft::renewal_by(mode, "1.a.example.").signed("1.a.example.", 1200);
+        for (offer, fits, record) in [
+            (&[5; 4][..], true, &record[..]),
+            (&[5; 1024], true, record),
+            (&[], true, record),
+            (&[5; 4], false, record),
+            (&[5; 4], true, &record[1..]),
+            (&[5; 4], true, &[]),
+            (&[], false, &[]),
+            (&[5; 1025], true, record),
+        ] {
+            let given = Given {
+                offer,
+                fits,
+                record,
+                ..good(1200, &[])
+            };
+            let (mut ours, mut theirs) = (day(), table_of(&day()));
+            let (mut reply, mut their_reply) = ([FILL; 2048], [FILL; 2048]);
+            let answer = ours.message(&given, &message, &mut reply);
+            let to_them = given_to_them(&given);
+            let expected = second::message(&mut theirs, &to_them, &message, &mut their_reply);
+            assert_eq!(answer, as_ours(expected), "{mode}, {given:?}");
+            assert_eq!(reply, their_reply, "{mode}, {given:?}");
+            assert_eq!(table_of(&ours), theirs, "{mode}, {given:?}");
+            if theirs.pairs[0].waiting().is_some() {
+                granted.push(theirs);
+            }
+        }
+    }
+    // Twice by Diffie-Hellman, five times by each assignment.
+    assert_eq!(granted.len(), 2 + 5 + 5);
+    assert!(granted.iter().all(|table| *table == granted[0]));
 }
 
 /// A refused call leaves all but the clock, which is then `clock`.
@@ -369,33 +412,53 @@ fn a_refusal_leaves_all_but_the_clock() {
     let offer = &[1; 1025];
     refused(Refusal::Time, 1000, |t, _| t.clear(late));
     refused(Refusal::Time, 1000, |t, r| {
-        t.message(late, true, query, &[], r)
+        t.message(&good(late, &[]), query, r)
     });
     refused(Refusal::Clock, 1000, |t, r| {
-        t.message(999, true, query, &[], r)
+        t.message(&good(999, &[]), query, r)
     });
     refused(Refusal::Size, 1001, |t, r| {
-        t.message(1001, true, &query[..11], &[], r)
+        t.message(&good(1001, &[]), &query[..11], r)
     });
     refused(Refusal::Offer, 1001, |t, r| {
-        t.message(1001, true, query, offer, r)
+        t.message(&good(1001, offer), query, r)
     });
     let (missing, left_over) = (&query[..12], &[&query[..], &[0]].concat());
     let format = |place: usize| Refusal::Format { place };
     refused(format(12), 1001, |t, r| {
-        t.message(1001, true, missing, &[], r)
+        t.message(&good(1001, &[]), missing, r)
     });
     refused(format(query.len()), 1001, |t, r| {
-        t.message(1001, true, left_over, &[], r)
+        t.message(&good(1001, &[]), left_over, r)
     });
     refused(Refusal::NotQuery, 1001, |t, r| {
-        t.message(1001, true, response, &[], r)
+        t.message(&good(1001, &[]), response, r)
     });
     refused(Refusal::Room, 1001, |t, r| {
-        t.message(1001, true, unknown, &[], r)
+        t.message(&good(1001, &[]), unknown, r)
     });
     refused(Refusal::Room, 1001, |t, r| {
-        t.message(1001, true, renewal, &[5], r)
+        t.message(&good(1001, &[5]), renewal, r)
+    });
+    // KEYREC, with room and without.
+    let secret = &Draft::renewal_by(4097, "1.a.example.").signed("1.a.example.", 1001);
+    let record = &key_record();
+    let fitting = |record| Given {
+        fits: true,
+        record,
+        ..good(1001, &[5])
+    };
+    let two = &record.repeat(2);
+    for wrong in [&[][..], &record[1..], &record[..9], two] {
+        refused(Refusal::KeyRec, 1001, |t, r| {
+            t.message(&fitting(wrong), secret, r)
+        });
+        refused(Refusal::KeyRec, 1001, |t, _| {
+            t.message(&fitting(wrong), secret, &mut [0; 512])
+        });
+    }
+    refused(Refusal::Room, 1001, |t, r| {
+        t.message(&fitting(record), secret, r)
     });
     refused(Refusal::Time, 1000, |t, _| t.issue(late, 1, 256));
     refused(Refusal::Clock, 1000, |t, _| t.issue(999, 1, 256));
@@ -430,6 +493,8 @@ fn a_refusal_has_its_number_and_its_place() {
     assert_eq!(Refusal::Full.to_string(), "refused with 15 (Full)");
     assert_eq!((Refusal::Batch.number(), Refusal::Batch.place()), (17, 0));
     assert_eq!(Refusal::Batch.to_string(), "refused with 17 (Batch)");
+    assert_eq!((Refusal::KeyRec.number(), Refusal::KeyRec.place()), (19, 0));
+    assert_eq!(Refusal::KeyRec.to_string(), "refused with 19 (KeyRec)");
 }
 
 #[test]
@@ -466,7 +531,7 @@ fn a_call_changes_its_own_pair_alone() {
             let key = |serial: u64| format!("{serial}.{}", office(pair));
             let send = |table: &mut Table, draft: Draft, serial: u64| {
                 let message = draft.signed(&key(serial), 1001);
-                let answer = table.message(1001, true, &message, &[5], &mut [0; 512])?;
+                let answer = table.message(&good(1001, &[5]), &message, &mut [0; 512])?;
                 assert_eq!((answer.pair, answer.serial), (pair, serial));
                 Ok(answer)
             };
@@ -485,7 +550,7 @@ fn a_call_changes_its_own_pair_alone() {
             // BADKEY: the pair that the name leads to keeps its keys.
             let unknown = Draft::ordinary().signed(&key(99), 1001);
             let kept = changes_its_own(&issued, pair, |t| {
-                t.message(1001, true, &unknown, &[], &mut [0; 512])
+                t.message(&good(1001, &[]), &unknown, &mut [0; 512])
             });
             assert_eq!(kept.view(), issued.view());
         }
@@ -493,7 +558,7 @@ fn a_call_changes_its_own_pair_alone() {
         let stranger = Draft::ordinary().signed("1.a.example.", 1001);
         for message in [stranger, Draft::ordinary().octets()] {
             let mut after = before.clone();
-            let answer = after.message(1001, true, &message, &[], &mut [0; 512]);
+            let answer = after.message(&good(1001, &[]), &message, &mut [0; 512]);
             assert_eq!(answer.expect("done").pair, 0);
             let expected = edited(&before, |words, _| words[CLOCK] = 1001);
             assert!(is_left(&expected, &after));
@@ -546,6 +611,9 @@ fn a_batch_refused_whole_leaves_all() {
             items[place].message = item.message;
             items[place].offer = span;
             refused_whole(&message, &items);
+            items[place].offer = item.offer;
+            items[place].record = span;
+            refused_whole(&message, &items);
         }
     }
 }
@@ -566,7 +634,7 @@ fn a_batch_is_its_messages_one_by_one() {
         let draft = match turn % 4 {
             0 => Draft::ordinary(),
             1 => Draft::deletion(&key),
-            _ => Draft::renewal(&key),
+            _ => Draft::renewal_by(RENEWALS[turn as usize % 3], &key),
         };
         let mut message = draft.signed(&key, 1001);
         // Some have an octet too much.
@@ -576,6 +644,8 @@ fn a_batch_is_its_messages_one_by_one() {
             good: turn % 5 != 4,
             message: lay(&message),
             offer: lay(&[turn as u8; 3]),
+            fits: turn % 6 != 5,
+            record: lay(&key_record()[usize::from(turn % 11 == 10)..]),
         });
     }
     let part = |span: Span| &octets[span.from as usize..][..span.size as usize];
@@ -587,8 +657,14 @@ fn a_batch_is_its_messages_one_by_one() {
             assert_eq!(answers.len(), items.len());
             let mut left = &mut expected[..];
             for (item, answer) in items.iter().zip(answers) {
-                let (message, offer) = (part(item.message), part(item.offer));
-                let one = by_one.message(item.time, item.good, message, offer, left);
+                let given = Given {
+                    time: item.time,
+                    good: item.good,
+                    offer: part(item.offer),
+                    fits: item.fits,
+                    record: part(item.record),
+                };
+                let one = by_one.message(&given, part(item.message), left);
                 assert_eq!(answer, one);
                 left = &mut left[one.map_or(0, |answer| answer.length)..];
             }
@@ -603,7 +679,7 @@ extern "C" {
         words: &mut Words,
         suffixes: &Octets,
         count: u64,
-        items: &[[u64; 6]; 64],
+        items: &[[u64; 9]; 64],
         octets: *const u8,
         octets_length: usize,
         answers: &mut [[u64; 7]; 64],
@@ -616,7 +692,7 @@ extern "C" {
 fn batch_by_words(
     table: &Table,
     count: u64,
-    items: &[[u64; 6]; 64],
+    items: &[[u64; 9]; 64],
     octets: &[u8],
 ) -> (u64, [u64; 7], Table) {
     let (mut words, suffixes) = (*table.parts().0, table.parts().1);
@@ -643,8 +719,8 @@ fn batch_by_words(
 #[test]
 fn any_words_of_items() {
     let message = Draft::ordinary().signed("1.a.example.", 1001);
-    let item = |verdict: u64| [1001, verdict, 0, message.len() as u64, 0, 0];
-    let mut items = [[u64::MAX; 6]; 64];
+    let item = |verdict: u64| [1001, verdict, 0, message.len() as u64, 0, 0, 0, 0, 0];
+    let mut items = [[u64::MAX; 9]; 64];
     let large = [255, 256, 257, 1 << 32, (1 << 32) + 1, 1 << 63, u64::MAX];
     for verdict in [0, 1, 2, 3].into_iter().chain(large) {
         items[0] = item(verdict);
@@ -654,9 +730,17 @@ fn any_words_of_items() {
         assert_eq!((answer[4], answer[5]), (1, 1), "{verdict}");
         assert_eq!(after.parts().0[CLOCK], 1001);
     }
-    // Some wrap to a small count when they are multiplied by six or by eight.
+    // The keying verdict too: a KEY that fits is KEYREC without a record.
+    let renewal = Draft::renewal_by(4097, "1.a.example.").signed("1.a.example.", 1001);
+    for fits in [0, 1, 2, 3].into_iter().chain(large) {
+        items[0] = [1001, 1, 0, renewal.len() as u64, 0, 4, fits, 0, 0];
+        let (number, answer, _) = batch_by_words(&day(), 1, &items, &renewal);
+        let refusal = if fits == 1 { 19 } else { 0 };
+        assert_eq!((number, answer[0]), (0, refusal), "{fits}");
+    }
+    // Some wrap to a small count when they are multiplied by nine or by eight.
     let items = [item(1); 64];
-    let wrapping = [1 << 61, (1 << 61) + 1, 1 << 62, u64::MAX / 6 + 1];
+    let wrapping = [1 << 61, (1 << 61) + 1, 1 << 62, u64::MAX / 9 + 1];
     for count in [65, 66].into_iter().chain(large).chain(wrapping) {
         let (number, _, after) = batch_by_words(&day(), count, &items, &message);
         assert_eq!(number, 17, "{count}");
@@ -688,7 +772,7 @@ fn junk_changes_nothing_and_stays() {
         &|t, _| t.issue(1001, 4, 512),
         &|t, _| t.revoke(1001, 3),
         &|t, _| t.look(&message),
-        &|t, r| t.message(1001, true, &message, &[5], r),
+        &|t, r| t.message(&good(1001, &[5]), &message, r),
         &|t, r| t.batch(&message, &[whole(&message); 9], r)?[8],
         &|t, _| t.clear(1001),
     ];

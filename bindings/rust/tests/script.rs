@@ -3,7 +3,7 @@
 
 mod support;
 
-use luffcringle::{Answer, Item, Refusal, Span, Table};
+use luffcringle::{Answer, Given, Item, Refusal, Span, Table};
 use std::fmt::Write;
 use std::path::{Path, PathBuf};
 use support::{changed, row, row_of, table_of, with_junk, Random};
@@ -79,23 +79,37 @@ impl Runner {
             }
             ["revoke", time, pair] => table.revoke(number(time)?, number(pair)?),
             ["look", message] => table.look(&octets(message)?),
-            ["message", time, verdict, offer, room, message] => table.message(
-                number(time)?,
-                is_good(verdict)?,
-                &octets(message)?,
-                &octets(offer)?,
-                &mut self.reply[..number(room)?.min(MOST_ROOM as u64) as usize],
-            ),
+            ["message", time, verdict, offer, room, message] => {
+                return self.message([time, verdict, offer, room, message, "bad", "-"])
+            }
+            ["message", time, verdict, offer, room, message, fits, record] => {
+                return self.message([time, verdict, offer, room, message, fits, record])
+            }
             _ => return None,
         })
     }
 
-    /// The line of a batch, six words for each item.
+    /// The long line of a message.
+    fn message(&mut self, words: [&str; 7]) -> Option<CallResult> {
+        let [time, verdict, offer, room, message, fits, record] = words;
+        let given = Given {
+            time: number(time)?,
+            good: is_good(verdict)?,
+            offer: &octets(offer)?,
+            fits: is_good(fits)?,
+            record: &octets(record)?,
+        };
+        let room = number(room)?.min(MOST_ROOM as u64) as usize;
+        let (message, reply) = (octets(message)?, &mut self.reply[..room]);
+        Some(self.table.message(&given, &message, reply))
+    }
+
+    /// The line of a batch, nine words for each item.
     fn batch(&mut self, words: &[&str]) -> Option<Result<Vec<CallResult>, Refusal>> {
         let ["batch", room, lent, ref items @ ..] = *words else {
             return None;
         };
-        let items: Option<Vec<Item>> = items.chunks(6).map(item).collect();
+        let items: Option<Vec<Item>> = items.chunks(9).map(item).collect();
         let room = number(room)?.min(MOST_BATCH_ROOM as u64) as usize;
         let (lent, replies) = (octets(lent)?, &mut self.reply[..room]);
         Some(self.table.batch(&lent, &items?, replies))
@@ -103,7 +117,9 @@ impl Runner {
 }
 
 fn item(words: &[&str]) -> Option<Item> {
-    let [time, verdict, from, size, offer_from, offer_size] = *words else {
+    let [time, verdict, from, size, offer_from, offer_size, fits, record_from, record_size] =
+        *words
+    else {
         return None;
     };
     Some(Item {
@@ -111,6 +127,8 @@ fn item(words: &[&str]) -> Option<Item> {
         good: is_good(verdict)?,
         message: span(from, size)?,
         offer: span(offer_from, offer_size)?,
+        fits: is_good(fits)?,
+        record: span(record_from, record_size)?,
     })
 }
 
@@ -297,9 +315,9 @@ fn the_named_script() {
 
 #[test]
 fn lines_that_do_not_read() {
-    agree(b"new 01\nnew +1\nnew 18446744073709551616\nnew  1\nlook abc\nlook \nlook gg\n\xff\nList\n\nmessage 1 Good - 9 -\nlook -");
+    agree(b"new 01\nnew +1\nnew 18446744073709551616\nnew  1\nlook abc\nlook \nlook gg\n\xff\nList\n\nmessage 1 Good - 9 -\nmessage 1 good - 9 - bad\nmessage 1 good - 9 - Bad -\nmessage 1 good - 9 - bad 0\nmessage 1 good - 9 - bad - -\nlook -");
     let longest = [b"look ".as_slice(), &[b'0'; LONGEST_LINE - 4]].concat();
     agree(&longest);
     agree(&longest[..LONGEST_LINE - 1]);
-    agree(b"batch 9\nbatch 9 - \nbatch 9 - 5 good 0 0 0\nbatch 9 - 5 good 0 0 0 0 5\nbatch 9 - 5 Good 0 0 0 0\nbatch 9 - 5 good 0 0 0 -\nbatch 9 -");
+    agree(b"batch 9\nbatch 9 - \nbatch 9 - 5 good 0 0 0 0\nbatch 9 - 5 good 0 0 0 0 bad 0\nbatch 9 - 5 good 0 0 0 0 bad 0 0 5\nbatch 9 - 5 Good 0 0 0 0 bad 0 0\nbatch 9 - 5 good 0 0 0 0 Bad 0 0\nbatch 9 - 5 good 0 0 0 0 bad 0 -\nbatch 9 -");
 }

@@ -18,7 +18,8 @@ use Rattle.model.specs.Names.{wireName}
 use Rattle.model.specs.Messages.{Message, readMessage}
 use Rattle.model.specs.Tsig.{Signature, unsigned, misplaced, wellPlaced, signature}
 use Rattle.model.specs.Calls.{roomFor, sizeOk}
-use Rattle.model.specs.Resolver.{LOST, WRONGID, UNSIGNED, FORMAT, ROOM, NOKEY, Writing, adoptedKey, offeredKey, unwritten, sent, isKeyRecord, rootOr, writtenRenewal, writtenAdoption, writtenDeletion, writtenInto, unheard, heard, signedReply, awaitedReply, readReply}
+use Rattle.model.specs.Tkey.{isKeyRecord}
+use Rattle.model.specs.Resolver.{LOST, WRONGID, UNSIGNED, FORMAT, ROOM, NOKEY, Writing, adoptedKey, offeredKey, unwritten, sent, rootOr, writtenRenewal, writtenAdoption, writtenDeletion, writtenInto, unheard, heard, signedReply, awaitedReply, readReply}
 use Rattle.model.proofs.Buffers.{put-length}
 use Rattle.model.proofs.Tests.{left, right, by-check, by-read, by-some}
 use Rattle.guarantees.specs.Refusals.{isOne}

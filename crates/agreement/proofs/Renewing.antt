@@ -17,6 +17,7 @@ use Rattle.model.specs.declared.Keys.the-variants.{Empty, Adopted, Renewing}
 use Rattle.model.specs.declared.Pair.{Pair}
 use Rattle.model.specs.declared.Heard.{Heard}
 use Rattle.model.specs.declared.Decision.{Decision}
+use Rattle.model.specs.declared.Scheme.the-variants.{ServerAssignment}
 use Rattle.model.specs.declared.Decision.the-variants.{Failed, Renews}
 use Rattle.model.specs.declared.Asking.the-variants as Asking
 use Rattle.model.specs.declared.Holding.{Holding}
@@ -29,11 +30,11 @@ use Rattle.model.specs.Tsig.{anyClass}
 use Rattle.model.specs.Tkey.{Old, tkeyType, keyType, modeOf, renewsOrAdopts, oldOf}
 use Rattle.model.specs.Pairs.{withKeys, made, revokedKey, renewedKeys, renewed}
 use Rattle.model.specs.Tables.{Table, suffixAt, pairAt, withPair, withClock, tableRules}
-use Rattle.model.specs.Judging.{formErr, servFail, badKey, badAlg, badTime, adoptedOf, waitingOf, isKey, signerOf, heldSuffix, heldPair, goodTimes, goodInterval, canRenew, renewalOf, changed}
-use Rattle.model.specs.Replies.{heading, recordOctets, tkeyRecord, granted, echoed, renewedReply, replyOf, errorOf}
+use Rattle.model.specs.Judging.{formErr, servFail, badKey, badAlg, badTime, adoptedOf, waitingOf, isKey, signerOf, heldSuffix, heldPair, goodTimes, goodInterval, canRenew, renewalOf, changed, offerServes}
+use Rattle.model.specs.Replies.{heading, recordOctets, tkeyRecord, granted, echoed, renewedReply, replyOf, errorOf, keyData, lends, answersOf, behind, grantedReply, secondOk}
 use Rattle.model.specs.Calls.{holderAt}
 use Rattle.model.specs.Resolver.{nameOf, oldKey, usable, adoptedKey, offeredKey, closed, opened, TkeyAnswer, offeredBy, renewedIn, rootOr, requestOctets, renewalOctets, writtenRenewal, readReply}
-use Rattle.model.specs.Exchange.{Ask, renewal, written, replyOr, Ordinary, Turn, writingIn, requestIn, Sides, exchanged, Clean, Agree, InTime, Room}
+use Rattle.model.specs.Exchange.{Ask, renewal, written, replyOr, Ordinary, Turn, writingIn, requestIn, Sides, exchanged, Clean, Agree, InTime, Room, givenIn}
 use Rattle.model.proofs.Tests.{left, by-check, by-known}
 use Rattle.octets.proofs.Back.{put-front}
 use Rattle.printed.proofs.Names.{algorithm-wire, key-wire}
@@ -164,8 +165,8 @@ module _ (b : Sides) (i : ℕ) (e : Agree i b) (x : Turn) (asked : List ℕ) (g 
           extra = echo (key .owner) (key .class) (key .ttl) (key .content) (key .named);
         }
 
-    replies : replyOf (holderAt t i) (scene .given) (readIn scene) (Renews g) ≡ replyBy (x .id) (rootOr asked) reply
-    unfolding replyOf renewedReply granted echoed tkeyRecord heldSuffix heldPair holderAt made
+    replies : replyOf (holderAt t i) (scene .given) (readIn scene) (Renews ServerAssignment g) ≡ replyBy (x .id) (rootOr asked) reply
+    unfolding replyOf renewedReply grantedReply granted keyData lends answersOf behind echoed tkeyRecord heldSuffix heldPair holderAt made
     replies =
         let entry = answerEntry reply .octets in
         let echo′ = recordOctets (key .owner) keyType (key .class) (key .ttl) (key .content) in
@@ -212,13 +213,13 @@ module _ (b : Sides) (i : ℕ) (e : Agree i b) (x : Turn) (asked : List ℕ) (g 
         go (Adopted y) f = refl
         go (Renewing y z) f = refl
 
-    renews : Fine scene (Renews g)
+    renews : Fine scene (Renews ServerAssignment g)
     unfolding changed errorOf renewed withKeys revokedKey made opened closed adoptedKey
     renews =
         record {
           ends = λ z.
               let there = pair-then t (x .time) i (renewed p (x .time) g) (e .enrolled) in
-              rw (hears scene (Renews g) reply refl replies z ∙ offers)
+              rw (hears scene (Renews ServerAssignment g) reply refl replies z ∙ offers)
               (record {
                 enrolled = enrolled-then t (x .time) i _ (e .enrolled);
                 adopted = rw (there, adopted-now, adopted-is s k (wrote-it .holds) .served) (key-then t (x .time) i (renewed p (x .time) g) (record { name = row .same .name; algorithm = row .same .algorithm }));
@@ -229,14 +230,14 @@ module _ (b : Sides) (i : ℕ) (e : Agree i b) (x : Turn) (asked : List ℕ) (g 
   -- ── The whole ─────────────────────────────────────────────────────────────────────────────────────────────────────
 
   by-mode : (a′ : Key) → signerOf (holderAt t i) (stampedBy (nameOf k) (stampFor scene (x .stamp) 0)) ≡ some a′
-      → Fine scene (renewalOf (heldSuffix (holderAt t i)) (heldPair (holderAt t i)) a′ (x .offer) (keyOf (keyed lent key)) (tkeyIn q))
-  unfolding renewalOf canRenew badKey formErr badAlg badTime servFail heldSuffix heldPair holderAt
+      → Fine scene (renewalOf (heldSuffix (holderAt t i)) (heldPair (holderAt t i)) a′ (givenIn x) (keyOf (keyed lent key)) (tkeyIn q) ServerAssignment)
+  unfolding renewalOf offerServes canRenew badKey formErr badAlg badTime servFail heldSuffix heldPair holderAt
   by-mode a′ _ =
       by-check (Fine scene) Failed _ (failed scene e _ (λ z. omega arith)) (isKey (nameOf k) (algorithmName (k .algorithm)) (suffixAt t i) a′) λ _.
       by-known (Fine scene) Failed _ (failed scene e _ (λ z. omega arith)) (algorithmNamed (algorithmName g)) λ g′ is.
       by-check (Fine scene) Failed _ (failed scene e _ (λ z. omega arith)) (goodInterval (tkeyIn q)) λ _.
-      by-check (Fine scene) Failed _ (failed scene e _ (λ z. omega arith)) (canRenew p (x .offer)) λ can.
-      subst (λ (g : Algorithm). Fine scene (Renews g)) (same-known (sym (named-back g) ∙ is)) (renews (ltb-true _ _ (left (ltb (p .«next_serial») 0x1_0000_0000) (not (eqb (length (x .offer)) 0)) can)))
+      by-check (Fine scene) Failed _ (failed scene e _ (λ z. omega arith)) (canRenew p ServerAssignment (x .offer)) λ can.
+      subst (λ (g : Algorithm). Fine scene (Renews ServerAssignment g)) (same-known (sym (named-back g) ∙ is)) (renews (ltb-true _ _ (left (ltb (p .«next_serial») 0x1_0000_0000) (not (eqb (length (x .offer)) 0)) can)))
     where
       same-known : {a b : Algorithm} → Known a ≡ Known b → a ≡ b
       same-known e = cc
@@ -270,20 +271,20 @@ module _ (b : Sides) (i : ℕ) (e : Agree i b) (x : Turn) (asked : List ℕ) (g 
   -- ── In the key's time and fudge, a key is granted ─────────────────────────────────────────────────────────────────
 
   module _ (spare : p .«next_serial» < 2 ^ 32) (interval : goodTimes inception expiration ≡ true) (some-offer : 0 < length (x .offer)) (ready : InTime a x) (room : Room b x) where
-    grants : decision b i x posed ≡ Renews g
-    unfolding posed modeOf renewsOrAdopts renewalOf goodInterval canRenew
+    grants : decision b i x posed ≡ Renews ServerAssignment g
+    unfolding posed modeOf renewsOrAdopts renewalOf goodInterval offerServes canRenew
     grants =
         decision-is b i x posed a (row .adopted) (row .same) ready refl
         ∙ rw (is-key t i k a (row .same), named-back g, interval, lt-ltb (p .«next_serial») 0x1_0000_0000 spare, ne-eqb (length (x .offer)) 0 (λ z. omega arith)) refl
 
-    hears-it : readReply (asksIn scene) (x .replyGood) (replyFor scene (Renews g)) .number ≡ 0
-    unfolding posed errorOf
-    hears-it = accepts scene (Renews g) (reply spare) refl (replies spare) (sized b i x posed (e .enrolled) room (Renews g) grants) (room .verdict)
+    hears-it : readReply (asksIn scene) (x .replyGood) (replyFor scene (Renews ServerAssignment g)) .number ≡ 0
+    unfolding posed errorOf secondOk lends
+    hears-it = accepts scene (Renews ServerAssignment g) (reply spare) refl (replies spare) (sized b i x posed (e .enrolled) room (Renews ServerAssignment g) grants refl) (room .verdict)
 
     clean : Clean b x
-    unfolding posed
+    unfolding posed secondOk lends
     clean =
-        let done = serves b i x posed (e .enrolled) room in
+        let done = serves b i x posed (e .enrolled) room (Renews ServerAssignment g) grants refl in
         record {
           writes = writes;
           serves = done;
@@ -292,11 +293,11 @@ module _ (b : Sides) (i : ℕ) (e : Agree i b) (x : Turn) (asked : List ℕ) (g 
         }
 
     sides : exchanged b x ≡ record { table = withPair (withClock t (x .time)) i (renewed p (x .time) g); resolver = offeredNow spare }
-    unfolding posed changed errorOf closed opened
+    unfolding posed changed errorOf secondOk lends closed opened
     sides =
-        exchanged-is b i x posed (e .enrolled) (serves b i x posed (e .enrolled) room)
+        exchanged-is b i x posed (e .enrolled) (serves b i x posed (e .enrolled) room (Renews ServerAssignment g) grants refl)
         ∙ ap (sidesFor scene) grants
-        ∙ ap (λ (r : Resolver). record { table = withPair (withClock t (x .time)) i (renewed p (x .time) g); resolver = r }) (hears scene (Renews g) (reply spare) refl (replies spare) hears-it ∙ offers spare)
+        ∙ ap (λ (r : Resolver). record { table = withPair (withClock t (x .time)) i (renewed p (x .time) g); resolver = r }) (hears scene (Renews ServerAssignment g) (reply spare) refl (replies spare) hears-it ∙ offers spare)
 
     granted-both : Granted i b (exchanged b x) g a
     unfolding renewed withKeys renewedKeys revokedKey made

@@ -16,7 +16,7 @@ use Rattle.model.specs.Octets.{part, put}
 use Rattle.model.specs.Tables.{Table, namesOf, tableRules}
 use Rattle.model.specs.Calls.{DONE, TABLE, Outcome, Result, Call, message, octetsOwner, called, messageOn, bufferAfter}
 use Rattle.model.specs.Runs.{Frame, frameOf}
-use Rattle.model.specs.Batches.{BATCH, inside, itemsInside, batchOk, itemCall, Batched, refusedWhole, behind, inTurn, batchOn, repliesOf, batchBuffer}
+use Rattle.model.specs.Batches.{BATCH, inside, itemsInside, batchOk, givenBy, itemCall, Batched, refusedWhole, behind, inTurn, batchOn, repliesOf, batchBuffer}
 use Rattle.model.proofs.Tests.{left, right}
 use Rattle.model.proofs.CallLaws.{counted}
 use Rattle.guarantees.proofs.Runs.{frame-next}
@@ -70,7 +70,7 @@ items-length w (suc n) i = ap suc (items-length w n (i + 1))
 -- What a test of one item says of the rest.
 module _ (octets : List ℕ) (m : ℕ) (is : length octets ≡ m) (w : List ℕ) (n i : ℕ) (h : i < n) where
   abbrev test : Bool
-  test = leb (itemAt w i .message .from + itemAt w i .message .size) m && leb (itemAt w i .offer .from + itemAt w i .offer .size) m
+  test = (leb (itemAt w i .message .from + itemAt w i .message .size) m && leb (itemAt w i .offer .from + itemAt w i .offer .size) m) && leb (itemAt w i .second .from + itemAt w i .second .size) m
 
   pub items-stop : test ≡ false → itemsInside octets (restOf w n i) ≡ false
   unfolding inside
@@ -103,16 +103,19 @@ module _ (octets w : List ℕ) (n : ℕ) where
 
 -- Its call, on the parts that it names.
 pub item-shows :
-    (octets : List ℕ) (x : BatchItem) (m o w s w′ b b′ : List ℕ) (a : Answer)
+    (octets : List ℕ) (x : BatchItem) (m o z w s w′ b b′ : List ℕ) (a : Answer)
     → m ≡ part octets (x .message .from) (x .message .size)
     → o ≡ part octets (x .offer .from) (x .offer .size)
-    → Answered (λ t. messageOn t (x .time) (x .good) o (length b) m) (octetsOwner (namesOf (tableOf w s)) m) w s w′ b b′ a
+    → z ≡ part octets (x .second .from) (x .second .size)
+    → Answered (λ t. messageOn t (record { now = x .time; good = x .good; offer = o; fits = x .fits; second = z }) (length b) m) (octetsOwner (namesOf (tableOf w s)) m) w s w′ b b′ a
     → ItemShows (called (tableOf w s) (itemCall octets (length b) x)) (itemOwner octets w s x) w s w′ b b′ a
-unfolding messageOn itemCall
-item-shows octets x m o w s w′ b b′ a e f v =
-    subst (λ (m : List ℕ). ItemShows (called (tableOf w s) (message (x .time) (x .good) (part octets (x .offer .from) (x .offer .size)) (length b) m)) (octetsOwner (namesOf (tableOf w s)) m) w s w′ b b′ a) e
-    (subst (λ (o : List ℕ). ItemShows (called (tableOf w s) (message (x .time) (x .good) o (length b) m)) (octetsOwner (namesOf (tableOf w s)) m) w s w′ b b′ a) f
-    (record { kept = v .kept; shows = v .shows; answers = v .answers; replies = v .replies }))
+unfolding messageOn itemCall givenBy
+item-shows octets x m o z w s w′ b b′ a e f q v =
+    let call : List ℕ → List ℕ → List ℕ → Call = λ m o z. message (record { now = x .time; good = x .good; offer = o; fits = x .fits; second = z }) (length b) m in
+    subst (λ (m : List ℕ). ItemShows (called (tableOf w s) (call m (part octets (x .offer .from) (x .offer .size)) (part octets (x .second .from) (x .second .size)))) (octetsOwner (namesOf (tableOf w s)) m) w s w′ b b′ a) e
+    (subst (λ (o : List ℕ). ItemShows (called (tableOf w s) (call m o (part octets (x .second .from) (x .second .size)))) (octetsOwner (namesOf (tableOf w s)) m) w s w′ b b′ a) f
+    (subst (λ (z : List ℕ). ItemShows (called (tableOf w s) (call m o z)) (octetsOwner (namesOf (tableOf w s)) m) w s w′ b b′ a) q
+    (record { kept = v .kept; shows = v .shows; answers = v .answers; replies = v .replies })))
 
 -- A buffer keeps its length only where what is put holds in it.
 put-fits : (xs b b′ : List ℕ) → b′ ≡ put xs b → length b′ ≡ length b → length xs ≤ length b
@@ -255,14 +258,18 @@ module _
   abbrev x : BatchItem
   x = itemAt items i
 
-  its-tests : ((inside octets (x .message) && inside octets (x .offer)) && itemsInside octets (restOf items n (i + 1))) ≡ true
+  its-tests : (((inside octets (x .message) && inside octets (x .offer)) && inside octets (x .second)) && itemsInside octets (restOf items n (i + 1))) ≡ true
   its-tests = rw (rest-next items n i h) at (turn .fits)
 
   pub turn-fits : ItemFits octets x
   unfolding inside
   turn-fits =
-      let e = left (inside octets (x .message) && inside octets (x .offer)) (itemsInside octets (restOf items n (i + 1))) its-tests in
-      (leb-true _ _ (left (inside octets (x .message)) (inside octets (x .offer)) e), leb-true _ _ (right (inside octets (x .message)) (inside octets (x .offer)) e))
+      let all = left ((inside octets (x .message) && inside octets (x .offer)) && inside octets (x .second)) (itemsInside octets (restOf items n (i + 1))) its-tests in
+      let e = left (inside octets (x .message) && inside octets (x .offer)) (inside octets (x .second)) all in (
+        leb-true _ _ (left (inside octets (x .message)) (inside octets (x .offer)) e),
+        leb-true _ _ (right (inside octets (x .message)) (inside octets (x .offer)) e),
+        leb-true _ _ (right (inside octets (x .message) && inside octets (x .offer)) (inside octets (x .second)) all),
+      )
 
   module _ (r : Answer) (w′ a′ b′ : List ℕ) (v : Behind (called (tableOf w s) (itemCall octets (length b - used) x)) (itemOwner octets w s x) used w s w′ b b′ r)
       (u : Wrote (answerWords r) (i * 7) a a′ (i * 7 + 7)) where
@@ -302,7 +309,7 @@ module _
           many = wrote-length u ∙ turn .many;
           same = wrote-length (v .replies) ∙ turn .same;
           done = turn .done ++ (q .outcome ∷ []);
-          fits = right (inside octets (x .message) && inside octets (x .offer)) (itemsInside octets (restOf items n (i + 1))) its-tests;
+          fits = right ((inside octets (x .message) && inside octets (x .offer)) && inside octets (x .second)) (itemsInside octets (restOf items n (i + 1))) its-tests;
           says = turn-says;
           told = rw at at (wrote-as (ap (λ (z : Answer). answersOf (turn .done) ++ answerWords z) (v .answers) ∙ answers-more (turn .done) (q .outcome)) (then (turn .told) u));
           replies = wrote-as (replies-more (turn .done) (q .outcome)) (then (turn .replies) (v .replies));

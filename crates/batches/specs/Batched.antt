@@ -20,15 +20,17 @@ use Rattle.results.specs.Words.{answerWords}
 
 -- ── Items and answers in words ──────────────────────────────────────────────────────────────────────────────────────
 
--- The item in the six words from 6 i on: its time; its verdict, where 1 is good and every other number bad; its message and its offer, each by its first place and
--- its size.
+-- The item in the nine words from 9 i on: its time; its verdict, where 1 is good and every other number bad; its message and its offer, each by its first place and
+-- its size; the keying verdict, likewise, and the lent record.
 unfoldable pub itemAt : List ℕ → ℕ → BatchItem
 itemAt w i =
     record {
-      time = getD w (i * 6) 0;
-      good = eqb (getD w (i * 6 + 1) 0) 1;
-      message = record { from = getD w (i * 6 + 2) 0; size = getD w (i * 6 + 3) 0 };
-      offer = record { from = getD w (i * 6 + 4) 0; size = getD w (i * 6 + 5) 0 };
+      time = getD w (i * 9) 0;
+      good = eqb (getD w (i * 9 + 1) 0) 1;
+      message = record { from = getD w (i * 9 + 2) 0; size = getD w (i * 9 + 3) 0 };
+      offer = record { from = getD w (i * 9 + 4) 0; size = getD w (i * 9 + 5) 0 };
+      fits = eqb (getD w (i * 9 + 6) 0) 1;
+      second = record { from = getD w (i * 9 + 7) 0; size = getD w (i * 9 + 8) 0 };
     }
 
 -- n items from item i on; the first n.
@@ -73,9 +75,9 @@ pub record BatchShows (octets : List ℕ) (xs : List BatchItem) (w s w′ a a′
 
 -- ── Its steps ───────────────────────────────────────────────────────────────────────────────────────────────────────
 
--- An item's message and its offer lie in the lent octets.
+-- An item's message, its offer and its lent record lie in the lent octets.
 abbrev pub ItemFits : List ℕ → BatchItem → Type 0
-ItemFits octets x = Within octets (x .message) × Within octets (x .offer)
+ItemFits octets x = Within octets (x .message) × Within octets (x .offer) × Within octets (x .second)
 
 -- One item's call, of the pair in the row `own`, lent the whole of its buffer.
 pub record ItemShows (x : Result) (own : Option ℕ) (w s w′ b b′ : List ℕ) (a : Answer) : Type 0 where

@@ -3,6 +3,7 @@
 use model::Answer;
 use model::BatchItem;
 use model::Span;
+use model::Verdicts;
 ghost use mathlib.Core.Path.{_≡_};
 ghost use mathlib.Core.Bool.{true, _&&_};
 ghost use mathlib.Core.List.{List};
@@ -20,10 +21,10 @@ ghost use Rattle.batches.specs.Batched.{itemAt, itemsIn, itemOwner, Batc
 // ── Items and answers in words ──────────────────────────────────────────────────────────────────────────────────────
 
 fn item_at(items: &[u64], i: usize) -> BatchItem
-    requires { ⌜ i * 6 + 6 ≤ length (now items) ⌝ }
+    requires { ⌜ i * 9 + 9 ≤ length (now items) ⌝ }
     ensures { λ r. ⌜ r ≡ itemAt (now (items .entry)) i ⌝ }
 {
-    let k = i * 6;
+    let k = i * 9;
     let message = Span {
         from: items[k + 2] as usize,
         size: items[k + 3] as usize,
@@ -32,11 +33,17 @@ fn item_at(items: &[u64], i: usize) -> BatchItem
         from: items[k + 4] as usize,
         size: items[k + 5] as usize,
     };
+    let second = Span {
+        from: items[k + 7] as usize,
+        size: items[k + 8] as usize,
+    };
     BatchItem {
         time: items[k],
         good: items[k + 1] == 1,
         message,
         offer,
+        fits: items[k + 6] == 1,
+        second,
     }
 }
 
@@ -64,16 +71,17 @@ fn is_inside(s: Span, n: usize) -> bool
 }
 
 fn is_item_inside(x: BatchItem, n: usize) -> bool
-    ensures { λ r. ⌜ r ≡ (leb (x .message .from + x .message .size) n && leb (x .offer .from + x .offer .size) n) ⌝ }
+    ensures { λ r. ⌜ r ≡ ((leb (x .message .from + x .message .size) n && leb (x .offer .from + x .offer .size) n) && leb (x .second .from + x .second .size) n) ⌝ }
 {
     let m = x.message;
     let o = x.offer;
-    is_inside(m, n) & is_inside(o, n)
+    let s = x.second;
+    is_inside(m, n) & is_inside(o, n) & is_inside(s, n)
 }
 
-// Whether the messages and the offers of all items lie in n octets.
+// Whether the messages, the offers and the lent records of all items lie in n octets.
 fn items_inside(items: &[u64], count: usize, n: usize) -> bool
-    requires { ⌜ (length (now items) ≡ 384) × (count ≤ 64) ⌝ }
+    requires { ⌜ (length (now items) ≡ 576) × (count ≤ 64) ⌝ }
     ensures { λ r. ⌜ ((octets : List ℕ) → length octets ≡ n → r ≡ itemsInside octets (itemsIn (now (items .entry)) count)) ⌝ }
 {
     let mut i: usize = 0;
@@ -88,7 +96,7 @@ fn items_inside(items: &[u64], count: usize, n: usize) -> bool
 }
 
 fn batch_ok(items: &[u64], count: u64, octets: &[u8]) -> bool
-    requires { ⌜ length (now items) ≡ 384 ⌝ }
+    requires { ⌜ length (now items) ≡ 576 ⌝ }
     ensures { λ r. ⌜ r ≡ batchOk (now (octets .entry)) (itemsIn (now (items .entry)) count) ⌝ }
 {
     if 64 < count {
@@ -113,9 +121,16 @@ fn serve_item(
 {
     let m = x.message;
     let o = x.offer;
+    let s = x.second;
     let message = records::part_of(octets, m);
     let offer = records::part_of(octets, o);
-    server::message_ruled(words, suffixes, x.time, x.good, message, offer, reply)
+    let second = records::part_of(octets, s);
+    let verdicts = Verdicts {
+        now: x.time,
+        good: x.good,
+        fits: x.fits,
+    };
+    server::message_ruled(words, suffixes, verdicts, message, offer, second, reply)
 }
 
 // The same, lent the room behind the `used` octets that the replies before take.
@@ -144,7 +159,7 @@ fn in_turn(
     answers: &mut [u64],
     replies: &mut [u8],
 )
-    requires { ⌜ (tableRules (tableOf (now words) (now suffixes)) ≡ true) × (length (now items) ≡ 384) × (length (now answers) ≡ 448) × (batchOk (now octets) (itemsIn (now items) count) ≡ true) ⌝ }
+    requires { ⌜ (tableRules (tableOf (now words) (now suffixes)) ≡ true) × (length (now items) ≡ 576) × (length (now answers) ≡ 448) × (batchOk (now octets) (itemsIn (now items) count) ≡ true) ⌝ }
     ensures { λ _. ⌜ TurnShows (now (octets .entry)) (itemsIn (now (items .entry)) count)
         (now (words .entry)) (now (suffixes .entry)) (now (words .exit)) (now (answers .entry)) (now (answers .exit)) (now (replies .entry)) (now (replies .exit)) ⌝ }
 {
@@ -161,14 +176,14 @@ fn in_turn(
 
 // ── The call ────────────────────────────────────────────────────────────────────────────────────────────────────────
 
-// Batch: the message calls of the first `count` items, up to 64, in turn on one table. Their messages and offers stand in `octets`; each item is told in seven
+// Batch: the message calls of the first `count` items, up to 64, in turn on one table. Their messages, offers and lent records stand in `octets`; each item is told in seven
 // words of `answers`, and the replies are laid one after another in the first octets of `replies`, each call lent the room that is left. Refused whole, in this order,
 // with TABLE (1), BATCH (17): then nothing changes.
 pub fn batch(
     words: &mut [u64],
     suffixes: &[u8],
     count: u64,
-    items: &[u64; 384],
+    items: &[u64; 576],
     octets: &[u8],
     answers: &mut [u64; 448],
     replies: &mut [u8],
@@ -179,14 +194,14 @@ pub fn batch(
     if !ruling::rules_ok(words, suffixes) {
         return 1;
     }
-    let six = &items[..];
-    if !batch_ok(six, count, octets) {
+    let lent_items = &items[..];
+    if !batch_ok(lent_items, count, octets) {
         return 17;
     }
     in_turn(
         words,
         suffixes,
-        six,
+        lent_items,
         count as usize,
         octets,
         &mut answers[..],

@@ -1,15 +1,21 @@
 -- What a call for C leaves: the words of its answer, the number that it returns, and the lent table. Assumes nothing.
 use Prim.Native.Nat.{ℕ}
 use mathlib.Core.List.{List}
+use mathlib.Core.Bool.{Bool}
 use mathlib.Core.Option.{Option}
 use mathlib.Core.Path.{_≡_}
 use lib.ListN.{drop}
 use Rattle.model.specs.declared.Answer.{Answer}
 use Rattle.model.specs.Tables.{Table}
+use Rattle.model.specs.Judging.{Given}
 use Rattle.model.specs.Calls.{DONE, TABLE, Result, newTable, bufferAfter}
 use Rattle.store.specs.Layout.{tableOf}
 use Rattle.results.specs.Words.{answerWords}
 use Rattle.server.specs.Serve.{OwnOf}
+
+-- What a message call is handed.
+abbrev pub handed : ℕ → Bool → List ℕ → Bool → List ℕ → Given
+handed time good offer fits second = record { now = time; good = good; offer = offer; fits = fits; second = second }
 
 -- The answer a is told: its words are written, and its number is returned.
 pub record Told (a : Answer) (words : List ℕ) (r : ℕ) : Type 0 where

@@ -3,6 +3,7 @@
 // number. The table lies in 1091 words and 8192 octets (store/specs/Layout.antt); where they hold none, every call but a new table is TABLE (1). TABLE changes
 // nothing of what is lent; every other refusal sets at most the clock.
 use model::Answer;
+use model::Verdicts;
 ghost use mathlib.Core.Path.{_≡_};
 ghost use Prim.Native.Nat.{_-_};
 ghost use lib.ListN.{length};
@@ -11,7 +12,7 @@ ghost use Rattle.model.specs.Calls.{enrolOn, issueOn, revokeOn, lookOn, message
 ghost use Rattle.store.specs.Layout.{tableOf};
 ghost use Rattle.batches.specs.Batched.{itemsIn, BatchShows};
 ghost use Rattle.outcomes.specs.Ends.{Own};
-ghost use Rattle.capi.specs.Told.{Told, Lent, NewLent, MessageLent};
+ghost use Rattle.capi.specs.Told.{handed, Told, Lent, NewLent, MessageLent};
 
 // ── Answers ─────────────────────────────────────────────────────────────────────────────────────────────────────────
 
@@ -110,7 +111,7 @@ pub extern "C" fn luffcringle_look(
     tell(answer, a)
 }
 
-// Message. Refused, in this order, with TABLE (1), TIME (2), CLOCK (3), SIZE (4), OFFER (5), FORMAT (6), NOTQUERY (7), ROOM (8). The reply fills the first octets
+// Message. Refused, in this order, with TABLE (1), TIME (2), CLOCK (3), SIZE (4), OFFER (5), FORMAT (6), NOTQUERY (7), KEYREC (19), ROOM (8). The reply fills the first octets
 // of its buffer, as many as the answer says.
 #[no_mangle]
 pub extern "C" fn luffcringle_message<'a>(
@@ -120,20 +121,27 @@ pub extern "C" fn luffcringle_message<'a>(
     good: bool,
     message: &'a [u8],
     offer: &'a [u8],
+    fits: bool,
+    second: &[u8],
     reply: &mut [u8],
     answer: &mut [u64; 7],
 ) -> u64
-    ensures { λ r. ⌜ MessageLent (λ t. messageOn t time good (now (offer .entry)) (length (now (reply .entry))) (now (message .entry)))
+    ensures { λ r. ⌜ MessageLent (λ t. messageOn t (handed time good (now (offer .entry)) fits (now (second .entry))) (length (now (reply .entry))) (now (message .entry)))
         (octetsOwner (namesOf (tableOf (now (words .entry)) (now (suffixes .entry)))) (now (message .entry)))
         (now (words .entry)) (now (suffixes .entry)) (now (words .exit)) (now (reply .entry)) (now (reply .exit)) (now (answer .exit)) r ⌝ }
 {
+    let verdicts = Verdicts {
+        now: time,
+        good,
+        fits,
+    };
     let a = server::message(
         &mut words[..],
         &suffixes[..],
-        time,
-        good,
+        verdicts,
         message,
         offer,
+        second,
         reply,
     );
     tell(answer, a)
@@ -147,7 +155,7 @@ pub extern "C" fn luffcringle_batch(
     words: &mut [u64; 1091],
     suffixes: &[u8; 8192],
     count: u64,
-    items: &[u64; 384],
+    items: &[u64; 576],
     octets: &[u8],
     answers: &mut [u64; 448],
     replies: &mut [u8],

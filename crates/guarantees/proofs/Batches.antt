@@ -14,9 +14,10 @@ use Rattle.model.specs.Messages.{Message, readMessage}
 use Rattle.model.specs.Tables.{Table, withClock, withPair, namesOf, tableRules}
 use Rattle.model.specs.Checks.{check, checkPlace}
 use Rattle.model.specs.Judging.{Holder, nobody, Given, judge}
-use Rattle.model.specs.Calls.{DONE, TABLE, SIZE, OFFER, NOTQUERY, ROOM, Outcome, Result, Step, refuses, breaks, gate, sizeOk, offerOk, roomFor, replyTo, replied, answered, messageStep, Call, message, timeOf, ownerOf, octetsOwner, stepOf, holderAt, servedBy, served, passed, called}
+use Rattle.model.specs.Replies.{secondOk}
+use Rattle.model.specs.Calls.{DONE, TABLE, SIZE, OFFER, NOTQUERY, ROOM, KEYREC, Outcome, Result, Step, refuses, breaks, gate, sizeOk, offerOk, roomFor, replyTo, replied, answered, messageStep, Call, message, timeOf, ownerOf, octetsOwner, stepOf, holderAt, servedBy, served, passed, called}
 use Rattle.model.specs.Runs.{final, log, Frame, frameOf}
-use Rattle.model.specs.Batches.{BATCH, batchOk, itemCall, Batched, refusedWhole, behind, inTurn, batchOn, lentCalls, madeCalls, repliesOf, Job, call, batch, itemCalls, callsOf, allCalls, doneJob, finalOf, jobLog, eachReplies, Roomy}
+use Rattle.model.specs.Batches.{BATCH, batchOk, givenBy, itemCall, Batched, refusedWhole, behind, inTurn, batchOn, lentCalls, madeCalls, repliesOf, Job, call, batch, itemCalls, callsOf, allCalls, doneJob, finalOf, jobLog, eachReplies, Roomy}
 use Rattle.model.proofs.Tests.{and-false}
 use Rattle.guarantees.specs.Refusals.{isOne}
 use Rattle.guarantees.specs.Batches.{endsOf, BatchSafe, BatchesSafe, outcomesIn, Demand3Batches}
@@ -37,12 +38,21 @@ module _ (h : Holder) (g : Given) (room : ℕ) where
       rw (le-leb (length x) room s, e) refl
   by-room x next i false e k = rw (and-false (leb (length x) room) e, e) refl
 
-  by-query : (m : Message) (b : Bool)
-      → length (check (refuses h) NOTQUERY b (check (refuses h) ROOM (roomFor 65535 (replyTo h g m)) (replied h g (judge h g m) (replyTo h g m))) .outcome .reply) ≤ room
-      → check (refuses h) NOTQUERY b (check (refuses h) ROOM (roomFor room (replyTo h g m)) (replied h g (judge h g m) (replyTo h g m)))
-      ≡ check (refuses h) NOTQUERY b (check (refuses h) ROOM (roomFor 65535 (replyTo h g m)) (replied h g (judge h g m) (replyTo h g m)))
+  by-lent : (m : Message) (b : Bool)
+      → length (check (refuses h) KEYREC b (check (refuses h) ROOM (roomFor 65535 (replyTo h g m)) (replied h g (judge h g m) (replyTo h g m))) .outcome .reply) ≤ room
+      → check (refuses h) KEYREC b (check (refuses h) ROOM (roomFor room (replyTo h g m)) (replied h g (judge h g m) (replyTo h g m)))
+      ≡ check (refuses h) KEYREC b (check (refuses h) ROOM (roomFor 65535 (replyTo h g m)) (replied h g (judge h g m) (replyTo h g m)))
   unfolding replied
-  by-query m true k = by-room (replyTo h g m) (replied h g (judge h g m) (replyTo h g m)) refl (leb (length (replyTo h g m)) 65535) refl k
+  by-lent m true k = by-room (replyTo h g m) (replied h g (judge h g m) (replyTo h g m)) refl (leb (length (replyTo h g m)) 65535) refl k
+  by-lent m false k = refl
+
+  abbrev lently : Message → ℕ → Step
+  lently m r = check (refuses h) KEYREC (secondOk (judge h g m .decision) (g .second)) (check (refuses h) ROOM (roomFor r (replyTo h g m)) (replied h g (judge h g m) (replyTo h g m)))
+
+  by-query : (m : Message) (b : Bool)
+      → length (check (refuses h) NOTQUERY b (lently m 65535) .outcome .reply) ≤ room
+      → check (refuses h) NOTQUERY b (lently m room) ≡ check (refuses h) NOTQUERY b (lently m 65535)
+  by-query m true k = by-lent m (secondOk (judge h g m .decision) (g .second)) k
   by-query m false k = refl
 
   by-read : (r : Reading Message) → length (checkPlace (breaks h) r (answered h g 65535) .outcome .reply) ≤ room
@@ -63,30 +73,30 @@ module _ (h : Holder) (g : Given) (room : ℕ) where
   unfolding messageStep
   step-room octets k = by-tests octets (sizeOk octets) (offerOk (g .offer)) k
 
-module _ (time : ℕ) (good : Bool) (offer octets : List ℕ) (room : ℕ) where
+module _ (g : Given) (octets : List ℕ) (room : ℕ) where
   abbrev lent : ℕ → Call
-  lent r = message time good offer r octets
+  lent r = message g r octets
 
   served-room : (u : Table) (o : Option ℕ) → length (servedBy u (lent 65535) o .outcome .reply) ≤ room → servedBy u (lent room) o ≡ servedBy u (lent 65535) o
   unfolding stepOf
-  served-room u none k = ap (λ (x : Step). record { table = u; outcome = x .outcome }) (step-room nobody (record { now = time; good = good; offer = offer }) room octets k)
+  served-room u none k = ap (λ (x : Step). record { table = u; outcome = x .outcome }) (step-room nobody g room octets k)
   served-room u (some i) k =
       ap (λ (x : Step). record { table = withPair u i (x .pair); outcome = x .outcome })
-      (step-room (holderAt u i) (record { now = time; good = good; offer = offer }) room octets k)
+      (step-room (holderAt u i) g room octets k)
 
   passed-room : (t : Table) (o : Option ℕ) → length (passed t (lent 65535) o .outcome .reply) ≤ room → passed t (lent room) o ≡ passed t (lent 65535) o
   unfolding served timeOf ownerOf
   passed-room t (some n) k = refl
-  passed-room t none k = served-room (withClock t time) (octetsOwner (namesOf (withClock t time)) octets) k
+  passed-room t none k = served-room (withClock t (g .now)) (octetsOwner (namesOf (withClock t (g .now))) octets) k
 
   called-room : (t : Table) → length (called t (lent 65535) .outcome .reply) ≤ room → called t (lent room) ≡ called t (lent 65535)
   unfolding called timeOf
-  called-room t k = passed-room t (gate t (some time)) k
+  called-room t k = passed-room t (gate t (some (g .now))) k
 
 item-room : (octets : List ℕ) (t : Table) (room : ℕ) (x : BatchItem) → length (called t (itemCall octets 65535 x) .outcome .reply) ≤ room
     → called t (itemCall octets room x) ≡ called t (itemCall octets 65535 x)
 unfolding itemCall
-item-room octets t room x k = called-room (x .time) (x .good) _ _ room t k
+item-room octets t room x k = called-room (givenBy octets x) _ room t k
 
 -- ── A batch is its items ────────────────────────────────────────────────────────────────────────────────────────────
 
@@ -133,7 +143,7 @@ turn-each octets t room (x ∷ xs) = ap suc (turn-each octets _ _ xs)
 
 item-fits : (octets : List ℕ) (t : Table) (room : ℕ) (x : BatchItem) → length (called t (itemCall octets room x) .outcome .reply) ≤ room
 unfolding itemCall
-item-fits octets t room x = message-fits t (x .time) (x .good) _ room _
+item-fits octets t room x = message-fits t (givenBy octets x) room _
 
 turn-fits : (octets : List ℕ) (t : Table) (room : ℕ) (xs : List BatchItem) → length (repliesOf (inTurn octets t room xs .outcomes)) ≤ room
 unfolding inTurn repliesOf

@@ -16,6 +16,8 @@ use Rattle.model.specs.declared.Key.{Key}
 use Rattle.model.specs.declared.Keys.{Keys}
 use Rattle.model.specs.declared.Keys.the-variants.{Empty, Adopted, Renewing}
 use Rattle.model.specs.declared.Pair.{Pair}
+use Rattle.model.specs.declared.Scheme.{Scheme}
+use Rattle.model.specs.declared.Scheme.the-variants.{DiffieHellman, ServerAssignment, ResolverAssignment}
 use Rattle.model.specs.declared.Decision.{Decision}
 use Rattle.model.specs.declared.Decision.the-variants.{Renews, Adopts}
 use Rattle.model.specs.Octets.{reads}
@@ -25,13 +27,13 @@ use Rattle.model.specs.Tsig.{signature}
 use Rattle.model.specs.Pairs.{withKeys, made, renewedKeys, renewed, adoptedKeys, adopted}
 use Rattle.model.specs.Tables.{Row, Table, noRow, rowAt, suffixAt, pairAt, withClock, withPair, namesOf, distinct, clockRule, tableRules}
 use Rattle.model.specs.Judging.{Holder, heldSuffix, heldPair, adoptedOf, waitingOf, judge, changed}
-use Rattle.model.specs.Replies.{granted, renewedReply, replyOf}
-use Rattle.model.specs.Calls.{refusalAt, TIME, SIZE, OFFER, NOTQUERY, ROOM, Result, refusal, unchanged, timeFits, emptyTable, newTable, sizeOk, offerOk, roomFor, replyTo, replied, timeOf, signedBy, octetsOwner, ownerOf, holderAt, served, called}
+use Rattle.model.specs.Replies.{granted, renewedReply, replyOf, grantedReply, secondOk}
+use Rattle.model.specs.Calls.{refusalAt, TIME, SIZE, OFFER, NOTQUERY, ROOM, Result, refusal, unchanged, timeFits, emptyTable, newTable, sizeOk, offerOk, roomFor, replyTo, replied, timeOf, signedBy, octetsOwner, ownerOf, holderAt, served, called, KEYREC}
 use Rattle.model.specs.Runs.{Operation, enrol, call, operated, operatedAll, Has, nextOf, suffixBy, suffixOf, keyRaised, keyMade, listed, namesMade, NoneSame, Distinct}
-use Rattle.model.proofs.CallLaws.{passes-first, message-size, message-offer, message-response, message-room, message-done}
-use Rattle.guarantees.specs.Freshness.{after, madeBy, Ask, asks, Decides, Granted, AtOnce, Demand2}
+use Rattle.model.proofs.CallLaws.{passes-first, message-size, message-offer, message-response, message-room, message-done, message-keyrec}
+use Rattle.guarantees.specs.Freshness.{after, madeBy, Ask, asks, Decides, fitServes, Granted, AtOnce, Demand2}
 use Rattle.model.proofs.Tests.{both, not-so, by-check}
-use Rattle.model.proofs.Decisions.{Grantable, Allows, allows}
+use Rattle.model.proofs.Decisions.{Fits, Grantable, Allows, allows}
 use Rattle.model.proofs.NameLaws.{same-sym, key-same}
 use Rattle.model.proofs.Rows.{at-member, set-has, same-next}
 use Rattle.guarantees.proofs.OneCall.{pass-rules}
@@ -244,7 +246,7 @@ module _ (t : Table) (q : Ask) (i : ℕ) (m : Message) (d : Decision) (x : Decid
     where
       go : (b : Bool) → sizeOk (q .octets) ≡ b → b ≡ true
       go true e = refl
-      go false e = not-refused _ 3 (begins ∙ message-size at now (q .given .good) (q .given .offer) (q .room) (q .octets) e)
+      go false e = not-refused _ 3 (begins ∙ message-size at (q .given) (q .room) (q .octets) e)
 
   offered : offerOk (q .given .offer) ≡ true
   unfolding OFFER
@@ -252,7 +254,7 @@ module _ (t : Table) (q : Ask) (i : ℕ) (m : Message) (d : Decision) (x : Decid
     where
       go : (b : Bool) → offerOk (q .given .offer) ≡ b → b ≡ true
       go true e = refl
-      go false e = not-refused _ 4 (begins ∙ message-offer at now (q .given .good) (q .given .offer) (q .room) (q .octets) sized e)
+      go false e = not-refused _ 4 (begins ∙ message-offer at (q .given) (q .room) (q .octets) sized e)
 
   query : m .response ≡ false
   unfolding NOTQUERY
@@ -260,7 +262,7 @@ module _ (t : Table) (q : Ask) (i : ℕ) (m : Message) (d : Decision) (x : Decid
     where
       go : (b : Bool) → m .response ≡ b → b ≡ false
       go false e = refl
-      go true e = not-refused _ 6 (begins ∙ message-response at now (q .given .good) (q .given .offer) (q .room) (q .octets) sized offered m (x .end) (x .readings) e)
+      go true e = not-refused _ 6 (begins ∙ message-response at (q .given) (q .room) (q .octets) sized offered m (x .end) (x .readings) e)
 
   row-is : signedBy (namesOf (withClock t now)) (signature (m .records)) ≡ some i
   unfolding namesOf withClock
@@ -270,20 +272,32 @@ module _ (t : Table) (q : Ask) (i : ℕ) (m : Message) (d : Decision) (x : Decid
   unfolding holderAt withClock suffixAt pairAt rowAt
   same-held = refl
 
+  lent : secondOk (judge (holderAt (withClock t now) i) (q .given) m .decision) (q .given .second) ≡ true
+  unfolding KEYREC
+  lent = go (secondOk (judge (holderAt (withClock t now) i) (q .given) m .decision) (q .given .second)) refl
+    where
+      go : (b : Bool) → secondOk (judge (holderAt (withClock t now) i) (q .given) m .decision) (q .given .second) ≡ b → b ≡ true
+      go true e = refl
+      go false e = not-refused _ 18 (begins ∙ message-keyrec at (q .given) (q .room) (q .octets) sized offered m (x .end) (x .readings) query (some i) row-is e)
+
+  -- the lent record serves the decision
+  pub is-lent : secondOk d (q .given .second) ≡ true
+  is-lent = subst (λ (e : Decision). secondOk e (q .given .second) ≡ true) (ap (λ (h : Holder). judge h (q .given) m .decision) same-held ∙ x .decided) lent
+
   roomy : roomFor (q .room) (replyTo (holderAt (withClock t now) i) (q .given) m) ≡ true
   unfolding ROOM
   roomy = go (roomFor (q .room) (replyTo (holderAt (withClock t now) i) (q .given) m)) refl
     where
       go : (b : Bool) → roomFor (q .room) (replyTo (holderAt (withClock t now) i) (q .given) m) ≡ b → b ≡ true
       go true e = refl
-      go false e = not-refused _ 7 (begins ∙ message-room at now (q .given .good) (q .given .offer) (q .room) (q .octets) sized offered m (x .end) (x .readings) query (some i) row-is e)
+      go false e = not-refused _ 7 (begins ∙ message-room at (q .given) (q .room) (q .octets) sized offered m (x .end) (x .readings) query (some i) row-is lent e)
 
   -- the pair becomes what the decision makes of it, and the reply is the decision's
   pub is-done : called t (asks q) ≡ record { table = withPair (withClock t now) i (changed d now (pairAt t i)); outcome = replied (holderAt t i) (q .given) (judge (holderAt t i) (q .given) m) (replyOf (holderAt t i) (q .given) m d) .outcome }
   unfolding replyTo
   is-done =
       begins
-      ∙ message-done at now (q .given .good) (q .given .offer) (q .room) (q .octets) sized offered m (x .end) (x .readings) query (some i) row-is roomy
+      ∙ message-done at (q .given) (q .room) (q .octets) sized offered m (x .end) (x .readings) query (some i) row-is lent roomy
       ∙ ap (λ (h : Holder). record { table = withPair (withClock t now) i (changed (judge h (q .given) m .decision) now (heldPair h)); outcome = replied h (q .given) (judge h (q .given) m) (replyOf h (q .given) m (judge h (q .given) m .decision)) .outcome }) same-held
       ∙ ap₂ (λ (e : Decision) (p : Pair). record { table = withPair (withClock t now) i (changed e now p); outcome = replied (holderAt t i) (q .given) (judge (holderAt t i) (q .given) m) (replyOf (holderAt t i) (q .given) m e) .outcome }) (x .decided) (held-is t i)
 
@@ -300,9 +314,9 @@ waiting-is Empty w e = absurd (Option·none-ne-some w e)
 waiting-is (Adopted a) w e = absurd (Option·none-ne-some w e)
 waiting-is (Renewing a v) w e = (a, ap (Renewing a) (Option·some-injective v w e))
 
-next-more : (p : Pair) (now : ℕ) (g : Algorithm) → p .«next_serial» < changed (Renews g) now p .«next_serial»
+next-more : (p : Pair) (now : ℕ) (scheme : Scheme) (g : Algorithm) → p .«next_serial» < changed (Renews scheme g) now p .«next_serial»
 unfolding changed renewed withKeys
-next-more p now g = omega arith
+next-more p now scheme g = omega arith
 
 -- The next serial of the suffix of row i is the row's.
 next-at : (t : Table) → tableRules t ≡ true → (i : ℕ) → i < length (t .rows) → nextOf t (suffixAt t i) ≡ pairAt t i .«next_serial»
@@ -311,6 +325,12 @@ next-at t r i h = next-row t r (at-member (t .rows) i noRow h)
 
 pub last-rules : (time : ℕ) (os : List Operation) → tableRules (after time os) ≡ true
 last-rules time os = run-rules (newTable (emptyTable 0) time .table) os (new-rules time)
+
+-- the verdict serves the scheme
+fit-so : (scheme : Scheme) (fits : Bool) → Fits scheme fits → fitServes scheme fits ≡ true
+fit-so DiffieHellman fits e = e
+fit-so ServerAssignment fits e = refl
+fit-so ResolverAssignment fits e = e
 
 module _ (t : Table) (q : Ask) (i : ℕ) (m : Message) where
   abbrev moment : ℕ
@@ -323,8 +343,8 @@ module _ (t : Table) (q : Ask) (i : ℕ) (m : Message) where
     below : i < length (t .rows)
     below = owner-enrolled t (asks q) i (x .owner)
 
-    rests : Allows m pair d
-    rests = subst (λ (e : Decision). Allows m pair e) (x .decided) (subst (λ (p : Pair). Allows m p (judge (holderAt t i) (q .given) m .decision)) (held-is t i) (allows (holderAt t i) (q .given) m))
+    rests : Allows (q .given) m pair d
+    rests = subst (λ (e : Decision). Allows (q .given) m pair e) (x .decided) (subst (λ (p : Pair). Allows (q .given) m p (judge (holderAt t i) (q .given) m .decision)) (held-is t i) (allows (holderAt t i) (q .given) m))
 
     abbrev then : Row
     then = record { suffix = suffixAt t i; pair = changed d moment pair }
@@ -351,15 +371,15 @@ module _ (t : Table) (q : Ask) (i : ℕ) (m : Message) where
       let k = waiting-is (pair .keys) (w .0) (w .1) in
       record { old = k .0; new = w .0; before = k .1; then-only = ap (λ (p : Pair). p .keys) (pair-then Adopts x) ∙ ap adoptedKeys (k .1) }
 
-  module _ (g : Algorithm) (x : Decides t q i m (Renews g)) where
+  module _ (scheme : Scheme) (g : Algorithm) (x : Decides t q i m (Renews scheme g)) where
     abbrev new : Key
     new = made pair moment g
 
     abbrev name : List ℕ
     name = keyName (new .serial) (suffixAt t i)
 
-    grant : Grantable m pair
-    grant = rests (Renews g) x .allowed
+    grant : Grantable (q .given) m pair scheme
+    grant = rests (Renews scheme g) x .allowed
 
     rules-now : tableRules t ≡ true
     rules-now = pass-rules t (some moment) (x .passes)
@@ -372,35 +392,40 @@ module _ (t : Table) (q : Ask) (i : ℕ) (m : Message) where
     unfolding keyMade suffixOf operated made
     raised-name =
         ap (λ (o : Option ℕ). keyRaised t (called t (asks q) .table) (suffixBy t o)) (x .owner)
-        ∙ raised t (called t (asks q) .table) (suffixAt t i) _ _ (next-at t rules-now i (below (Renews g) x)) (next-then (Renews g) x rules-then) (next-more pair moment g)
+        ∙ raised t (called t (asks q) .table) (suffixAt t i) _ _ (next-at t rules-now i (below (Renews scheme g) x)) (next-then (Renews scheme g) x rules-then) (next-more pair moment scheme g)
 
     waiting-new : waitingOf (pairAt (called t (asks q) .table) i .keys) ≡ some new
     unfolding changed renewed withKeys
-    waiting-new = ap (λ (p : Pair). waitingOf (p .keys)) (pair-then (Renews g) x) ∙ waits-now (pair .keys) moment new (grant .signer) (grant .is-signer)
+    waiting-new = ap (λ (p : Pair). waitingOf (p .keys)) (pair-then (Renews scheme g) x) ∙ waits-now (pair .keys) moment new (grant .signer) (grant .is-signer)
 
-    renews : Granted t q i m g
-    unfolding replyOf renewedReply granted heldSuffix heldPair holderAt operated
+    renews : Granted t q i m scheme g
+    unfolding replyOf renewedReply grantedReply granted changed heldSuffix heldPair holderAt operated
     renews = record {
       tkey = grant .tkey;
       keyRecord = grant .keyRecord;
       is-tkey = grant .is-tkey;
+      is-mode = grant .is-mode;
       is-key = grant .is-key;
+      is-fit = fit-so scheme (q .given .fits) (grant .fits);
+      offered = grant .offered;
+      is-lent = is-lent t q i m (Renews scheme g) x;
+      pair-is = pair-then (Renews scheme g) x;
       waiting = waiting-new;
       name = name;
       is-name = refl;
       is-made = raised-name;
-      says = reply-then (Renews g) x ∙ rw (grant .is-tkey, grant .is-key) refl;
+      says = reply-then (Renews scheme g) x ∙ rw (grant .is-tkey, grant .is-key) refl;
     }
 
 never-before :
-    (time : ℕ) (os : List Operation) (q : Ask) (i : ℕ) (m : Message) (g : Algorithm) (x : Decides (after time os) q i m (Renews g))
-    → NoneSame (renews (after time os) q i m g x .name) (madeBy time os)
+    (time : ℕ) (os : List Operation) (q : Ask) (i : ℕ) (m : Message) (scheme : Scheme) (g : Algorithm) (x : Decides (after time os) q i m (Renews scheme g))
+    → NoneSame (renews (after time os) q i m scheme g x .name) (madeBy time os)
 unfolding operated renews keyName
-never-before time os q i m g x =
+never-before time os q i m scheme g x =
     let t = after time os in
-    let name = renews (after time os) q i m g x .name in
+    let name = renews (after time os) q i m scheme g x .name in
     fresh-none t name (madeBy time os)
-    (was-fresh t (called t (asks q) .table) name (rules-then t q i m g x) (operation-new t (call (asks q)) name (raised-name t q i m g x)))
+    (was-fresh t (called t (asks q) .table) name (rules-then t q i m scheme g x) (operation-new t (call (asks q)) name (raised-name t q i m scheme g x)))
     (all-used (newTable (emptyTable 0) time .table) os (new-rules time))
 
 pub demand2 : Demand2

@@ -17,6 +17,7 @@ use Rattle.model.specs.declared.Key.{Key}
 use Rattle.model.specs.declared.Keys.{Keys}
 use Rattle.model.specs.declared.Keys.the-variants.{Empty, Adopted, Renewing}
 use Rattle.model.specs.declared.Pair.{Pair}
+use Rattle.model.specs.declared.Scheme.{Scheme}
 use Rattle.model.specs.declared.Decision.{Decision}
 use Rattle.model.specs.declared.Decision.the-variants.{Refused, Passed, Renews, Adopts, Deletes, Withdraws}
 use Rattle.model.specs.Octets.{Reading, stops, reads}
@@ -27,7 +28,7 @@ use Rattle.model.specs.Tkey.{contentsOf}
 use Rattle.model.specs.Pairs.{withKeys, made, revokedKey, issued, renewedKeys, renewed, adoptedKeys, adopted, deleted, withdrawnKeys, withdrawn}
 use Rattle.model.specs.Tables.{Row, Table, noRow, rowAt, suffixAt, pairAt, withClock, withPair, namesOf, rowNamed, isNone, distinct, tableRules}
 use Rattle.model.specs.Judging.{notAuth, badKey, Holder, heldPair, heldSuffix, heldNumber, keyIf, isNamed, isKey, adoptedOf, waitingOf, signerOf, Given, Judged, unknown, inTime, step3, decide, judgeRead, judge, changed}
-use Rattle.model.specs.Calls.{breaks, refusalAt, DONE, SIZE, OFFER, FORMAT, NOTQUERY, ROOM, SPENT, TERM, Result, Step, refusal, unchanged, refuses, leaves, emptyTable, newTable, gate, Call, issue, timeOf, numberOwner, sizeOk, offerOk, roomFor, replyTo, replied, answered, messageStep, ownerOf, stepOf, holderAt, servedBy, served, called}
+use Rattle.model.specs.Calls.{breaks, refusalAt, DONE, SIZE, OFFER, FORMAT, NOTQUERY, ROOM, SPENT, TERM, Result, Step, refusal, unchanged, refuses, leaves, emptyTable, newTable, gate, Call, issue, timeOf, numberOwner, sizeOk, offerOk, roomFor, replyTo, replied, answered, messageStep, ownerOf, stepOf, holderAt, servedBy, served, called, KEYREC}
 use Rattle.model.specs.Runs.{Operation, call, operated, operatedAll, Has, nextOf, keyMade}
 use Rattle.model.proofs.Tests.{left, right, and-false, differs, by-check, by-place}
 use Rattle.model.proofs.RuleFacts.{KeyOk, KeysOk, PairOk}
@@ -41,6 +42,7 @@ use Rattle.guarantees.proofs.OneCall.{pass-time, served-is}
 use Rattle.guarantees.proofs.Made.{Held, Event, next-fits, next-row, owner-enrolled}
 use Rattle.guarantees.proofs.Refusals.{demand1}
 use Rattle.guarantees.proofs.Freshness.{operation-made, operation-new, run-rules, is-done, waiting-is, last-rules}
+use Rattle.model.specs.Replies.{secondOk}
 
 -- ── The keys of a table that keeps the rules ────────────────────────────────────────────────────────────────────────
 
@@ -246,6 +248,7 @@ refused-stays h g room octets m end is rcode error e =
     by-check P (refuses h) OFFER refl (offerOk (g .offer)) λ _.
     by-place P (breaks h) (λ place. refl) (readMessage octets) λ n last is-too.
     by-check P (refuses h) NOTQUERY refl (not (n .response)) λ _.
+    by-check P (refuses h) KEYREC refl (secondOk (judge h g n .decision) (g .second)) λ _.
     by-check P (refuses h) ROOM refl (roomFor room (replyTo h g n)) λ _.
     let q : n ≡ m = cc in
     ap (λ (d : Decision). changed d (g .now) (heldPair h)) (ap (λ (y : Message). judge h g y .decision) q ∙ e)
@@ -404,14 +407,14 @@ module _ (t : Table) (i : ℕ) (k : Key) (r : tableRules t ≡ true) where
         let z : a .0 .serial < k .serial = o .2 in
         decided-loses q m Withdraws x (inr h) (subst (λ (ks : Keys). Without (withdrawnKeys ks) (k .serial)) (sym (a .1)) (without-adopted (a .0) (k .serial) (omega arith)))
 
-    drops : (g : Algorithm) → Decides t q i m (Renews g) → waitingOf (was .keys) ≡ some k → Goes t (call (asks q)) (suffixAt t i) k
+    drops : (scheme : Scheme) (g : Algorithm) → Decides t q i m (Renews scheme g) → waitingOf (was .keys) ≡ some k → Goes t (call (asks q)) (suffixAt t i) k
     unfolding changed renewed withKeys renewedKeys revokedKey made
-    drops g x h =
+    drops scheme g x h =
         let a = waiting-is (was .keys) k h in
-        let o : KeysOk _ _ _ (Renewing (a .0) k) = subst (KeysOk _ _ _) (a .1) (pair-ok (in-table q m (Renews g) x) .keys-ok) in
+        let o : KeysOk _ _ _ (Renewing (a .0) k) = subst (KeysOk _ _ _) (a .1) (pair-ok (in-table q m (Renews scheme g) x) .keys-ok) in
         let z : a .0 .serial < k .serial = o .2 in
-        let b : k .serial < was .«next_serial» = serial-below (in-table q m (Renews g) x) (inr h) in
-        decided-loses q m (Renews g) x (inr h)
+        let b : k .serial < was .«next_serial» = serial-below (in-table q m (Renews scheme g) x) (inr h) in
+        decided-loses q m (Renews scheme g) x (inr h)
         (subst (λ (ks : Keys). Without (renewedKeys ks (q .given .now) (made was (q .given .now) g)) (k .serial)) (sym (a .1)) (without-both _ _ (k .serial) (omega arith) (omega arith)))
 
   module _ (time number algorithm : ℕ) (e : gate t (some time) ≡ none) (w : numberOwner (namesOf t) number ≡ some i) (ends : called t (issue time number algorithm) .outcome .answer .number ≡ DONE) where

@@ -1,5 +1,6 @@
 -- The promises are kept. Assumes nothing.
 use mathlib.Core.Path.{_≡_, refl, sym, ap, _∙_}
+use mathlib.Core.Bool.{Bool, true, false, false≢true}
 use mathlib.Core.Logic.{inl}
 use mathlib.Core.List.{List, [], _∷_, map}
 use Prim.Native.Nat.{ℕ}
@@ -7,20 +8,24 @@ use native.Mathlib.Omega.{arith}
 use Rattle.model.specs.declared.Algorithm.the-variants.{Sha256}
 use Rattle.model.specs.declared.Keys.{Keys}
 use Rattle.model.specs.declared.Keys.the-variants.{Empty, Adopted, Renewing}
+use Rattle.model.specs.declared.Scheme.the-variants.{DiffieHellman, ServerAssignment, ResolverAssignment}
+use Rattle.model.specs.Octets.{Reading, reads, stops}
 use Rattle.model.specs.Names.{keyName}
+use Rattle.model.specs.Messages.{Message, readMessage}
 use Rattle.model.specs.Tables.{Table, pairAt, tableRules}
 use Rattle.model.specs.Calls.{Outcome, Call, issue, revoke}
 use Rattle.model.specs.Runs.{call, final, log, NeverBack, frameOf, ownLog, own}
-use Rattle.model.specs.Batches.{Job, batch, callsOf, allCalls, Roomy, doneJob, jobLog, inside, batchOk, itemCall, refusedWhole, inTurn, batchOn}
+use Rattle.model.specs.Batches.{Job, batch, callsOf, allCalls, Roomy, doneJob, jobLog, inside, batchOk, givenBy, itemCall, refusedWhole, inTurn, batchOn}
 use Rattle.model.proofs.Running.{after}
 use Rattle.model.proofs.Requests.{suffix, ordinary}
 use Rattle.model.proofs.Day.{opening, first as first-key, day}
+use Rattle.model.proofs.Keying.{good}
 use Rattle.guarantees.specs.Freshness.{after as run}
 use Rattle.guarantees.specs.Gone.{Goes}
 use Rattle.guarantees.specs.Isolation.{AtAnyTimes, InAnyOrder}
 use Rattle.guarantees.specs.Batches.{endsOf, outcomesIn, AtAnyRoom}
 use Rattle.guarantees.specs.Sample.{table, calls, unknown, lent, items}
-use Rattle.guarantees.specs.Promises.{numbers, Promises}
+use Rattle.guarantees.specs.Promises.{numbers, Grants, Promises}
 use Rattle.guarantees.proofs.Orders.{never-back, swapped}
 use Rattle.guarantees.proofs.Refusals.{demand1}
 use Rattle.guarantees.proofs.Freshness.{last-rules, demand2}
@@ -100,24 +105,49 @@ key-goes : Goes (run 1000 opening) (call (issue 1200 1 256)) suffix first-key
 unfolding opening after
 key-goes = demand8 .ways (run 1000 opening) 0 first-key (last-rules 1000 opening) .replaced 1200 1 256 refl refl refl (inl refl)
 
+-- ── A granted renewal of each scheme ────────────────────────────────────────────────────────────────────────────────
+
+abbrev isRead : Reading Message → Bool
+isRead (reads m end) = true
+isRead (stops place) = false
+
+abbrev Read : Reading Message → Type 0
+Read r = (m : Message) × (end : ℕ) × (r ≡ reads m end)
+
+read-as : (r : Reading Message) → isRead r ≡ true → Read r
+read-as (reads m end) e = (m, end, refl)
+read-as (stops place) e = absurd (false≢true e)
+
+grants-4097 : Grants 4097 DiffieHellman
+unfolding opening after read-as
+grants-4097 = let w = read-as (readMessage (good 4097)) refl in (w .0, record { end = w .1; passes = refl; readings = w .2; owner = refl; decided = refl; finished = refl })
+
+grants-4098 : Grants 4098 ServerAssignment
+unfolding opening after read-as
+grants-4098 = let w = read-as (readMessage (good 4098)) refl in (w .0, record { end = w .1; passes = refl; readings = w .2; owner = refl; decided = refl; finished = refl })
+
+grants-4099 : Grants 4099 ResolverAssignment
+unfolding opening after read-as
+grants-4099 = let w = read-as (readMessage (good 4099)) refl in (w .0, record { end = w .1; passes = refl; readings = w .2; owner = refl; decided = refl; finished = refl })
+
 -- ── Room for one reply alone ────────────────────────────────────────────────────────────────────────────────────────
 
 abbrev jobs : List Job
 jobs = batch lent items 128 ∷ []
 
 batch-times : NeverBack (allCalls (tableRules table) jobs)
-unfolding table unknown lent items after itemCall batchOk inside callsOf
+unfolding table unknown lent items after givenBy itemCall batchOk inside callsOf
 batch-times = never-back (allCalls (tableRules table) jobs) refl
 
 abbrev exact : List Job
 exact = batch lent items 129 ∷ []
 
 exact-times : NeverBack (allCalls (tableRules table) exact)
-unfolding table unknown lent items after itemCall batchOk inside callsOf
+unfolding table unknown lent items after givenBy itemCall batchOk inside callsOf
 exact-times = never-back (allCalls (tableRules table) exact) refl
 
 exact-roomy : Roomy table exact
-unfolding table unknown lent items after itemCall batchOk inside callsOf
+unfolding table unknown lent items after givenBy itemCall batchOk inside callsOf
 exact-roomy = (omega arith, tt)
 
 abbrev second : List Outcome → ℕ
@@ -125,11 +155,11 @@ second [] = 0
 second (o ∷ os) = first (map (λ (o : Outcome). o .answer .number) os)
 
 no-room-there : second (outcomesIn (jobLog table jobs)) ≡ 8
-unfolding table unknown lent items after doneJob batchOn inTurn itemCall batchOk inside refusedWhole
+unfolding table unknown lent items after doneJob batchOn inTurn givenBy itemCall batchOk inside refusedWhole
 no-room-there = refl
 
 done-in-the-whole : second (endsOf (log table (allCalls (tableRules table) jobs))) ≡ 0
-unfolding table unknown lent items after itemCall batchOk inside callsOf
+unfolding table unknown lent items after givenBy itemCall batchOk inside callsOf
 done-in-the-whole = refl
 
 room-needed : ¬ AtAnyRoom
@@ -140,7 +170,7 @@ room-needed claim =
 -- ── The whole ───────────────────────────────────────────────────────────────────────────────────────────────────────
 
 pub promises : Promises
-unfolding table calls unknown lent items after batchOn inTurn itemCall batchOk inside refusedWhole
+unfolding table calls unknown lent items after batchOn inTurn givenBy itemCall batchOk inside refusedWhole
 promises = record {
   refusals = demand1;
   names = demand2;
@@ -154,6 +184,7 @@ promises = record {
   sample-owners = refl;
   sample-goes = key-goes;
   sample-signed = signed-with (ordinary 1 1250) (keyName 1 suffix) Sha256 refl;
+  sample-renewals = (grants-4097, grants-4098, grants-4099);
   needs-times = times-needed;
   needs-order = order-needed;
   sample-batch = refl;

@@ -1,6 +1,6 @@
 -- Demand 1, for every call on every table. Assumes nothing.
 use mathlib.Core.Path.{_≡_, refl, sym, ap, subst, _∙_}
-use mathlib.Core.Bool.{Bool, true, false, not, _&&_, _||_}
+use mathlib.Core.Bool.{Bool, true, false, not, _&&_, _||_, false≢true}
 use mathlib.Core.Option.{Option, none, some, Option·some-injective, Option·none-ne-some}
 use mathlib.Core.List.{List, [], _∷_}
 use Prim.Native.Nat.{ℕ, _≤_}
@@ -11,20 +11,27 @@ use borrow.Author.Tests.{leb-true}
 use Rattle.model.specs.Names.{algorithmNumbered}
 use Rattle.model.specs.Messages.{Message, readMessage}
 use Rattle.model.specs.Tsig.{Signature, unsigned, misplaced, wellPlaced, signature}
+use Rattle.model.specs.declared.Algorithm.{Algorithm}
+use Rattle.model.specs.declared.Scheme.the-variants.{DiffieHellman, ServerAssignment, ResolverAssignment}
+use Rattle.model.specs.declared.Decision.{Decision}
+use Rattle.model.specs.declared.Decision.the-variants.{Unsigned, Refused, Passed, Failed, Renews, Adopts, Readopts, Deletes, Withdraws}
 use Rattle.model.specs.declared.Key.{Key}
 use Rattle.model.specs.declared.Answer.{Answer}
 use Rattle.model.specs.Octets.{put, Reading, stops, reads}
-use Rattle.model.specs.Tables.{Table, withClock, namesOf, rowNamed, isNone, suffixOk, termOk, tableRules}
-use Rattle.model.specs.Judging.{Holder, nobody, heldNumber, signerOf, Given}
+use Rattle.model.specs.Tables.{Table, noPair, rowAt, suffixAt, pairAt, withClock, namesOf, rowNamed, isNone, suffixOk, termOk, tableRules}
+use Rattle.model.specs.Judging.{Holder, nobody, heldNumber, heldPair, signerOf, Given, judge}
 use Rattle.model.specs.Checks.{check, checkPlace}
-use Rattle.model.specs.Calls.{refusalAt, breaks, DONE, TABLE, TIME, CLOCK, SIZE, OFFER, FORMAT, NOTQUERY, ROOM, NAME, TERM, TWIN, FULL, Outcome, Result, refusal, done, unchanged, timeFits, timeGoesOn, timeGate, gate, clockAt, newTable, withRow, enrolled, enrolPassed, enrolOn, Step, refuses, leaves, sizeOk, found, lookedUp, lookStep, offerOk, roomFor, replyTo, replied, answered, messageStep, Call, look, message, timeOf, ownerOf, stepOf, holderAt, servedBy, called, lookOn, messageOn, bufferAfter}
+use Rattle.model.specs.Calls.{refusalAt, breaks, DONE, TABLE, TIME, CLOCK, SIZE, OFFER, FORMAT, NOTQUERY, ROOM, NAME, TERM, TWIN, FULL, Outcome, Result, refusal, done, unchanged, timeFits, timeGoesOn, timeGate, gate, clockAt, newTable, withRow, enrolled, enrolPassed, enrolOn, Step, refuses, leaves, sizeOk, found, lookedUp, lookStep, offerOk, roomFor, replyTo, replied, answered, messageStep, Call, look, message, timeOf, ownerOf, stepOf, holderAt, servedBy, called, lookOn, messageOn, bufferAfter, KEYREC}
 use Rattle.model.specs.Runs.{Operation, enrol, call, operated}
 use Rattle.model.proofs.Buffers.{put-length}
 use Rattle.model.proofs.CallLaws.{holderBy, refused-first, passes-first, leaves-it, buffer-refused}
-use Rattle.guarantees.specs.Refusals.{isOne, ownRefusals, firstRefusals, refusalsOf, operationTime, movedBy, Safe, Demand1}
+use Rattle.guarantees.specs.Refusals.{isOne, ownRefusals, firstRefusals, refusalsOf, operationTime, movedBy, Safe, WrongRecord, Demand1}
 use Rattle.model.proofs.Tests.{left, by-check, by-place, by-known}
+use Rattle.model.proofs.Decisions.{Allows, allows}
 use Rattle.guarantees.proofs.OneCall.{clock-at, sets-clock, clockBy, served-is}
 use Rattle.guarantees.proofs.Moves.{Ends, refused, finished, ends}
+use Rattle.model.specs.Tkey.{isKeyRecord}
+use Rattle.model.specs.Replies.{lends, secondOk}
 
 -- ── Lists of numbers ────────────────────────────────────────────────────────────────────────────────────────────────
 
@@ -54,16 +61,17 @@ gate-listed t (some τ) own n e =
     P : ℕ → Type 0
     P k = isOne k (DONE ∷ TABLE ∷ TIME ∷ CLOCK ∷ own) ≡ true
 
-not-format : (t : Table) (τ : Option ℕ) (n : ℕ) → gate t τ ≡ some n → ¬ (n ≡ FORMAT)
-unfolding gate TABLE TIME CLOCK FORMAT
-not-format t none n e = refused-by (λ k. ¬ (k ≡ 6)) TABLE (tableRules t) none (λ q. omega (arith, q)) (λ k q. absurd (Option·none-ne-some k q)) n e
-not-format t (some τ) n e =
-    refused-by P TABLE (tableRules t) (timeGate (some τ) (t .clock)) (λ q. omega (arith, q))
-    (λ k q. refused-by P TIME (timeFits τ) (check some CLOCK (timeGoesOn (t .clock) τ) none) (λ q. omega (arith, q))
-    (λ k q. refused-by P CLOCK (timeGoesOn (t .clock) τ) none (λ q. omega (arith, q)) (λ k q. absurd (Option·none-ne-some k q)) k q) k q) n e
+-- The gate's refusals are the first three.
+first-three : (t : Table) (τ : Option ℕ) (n : ℕ) → gate t τ ≡ some n → n ≤ 3
+unfolding gate TABLE TIME CLOCK
+first-three t none n e = refused-by (λ k. k ≤ 3) TABLE (tableRules t) none (omega arith) (λ k q. absurd (Option·none-ne-some k q)) n e
+first-three t (some τ) n e =
+    refused-by P TABLE (tableRules t) (timeGate (some τ) (t .clock)) (omega arith)
+    (λ k q. refused-by P TIME (timeFits τ) (check some CLOCK (timeGoesOn (t .clock) τ) none) (omega arith)
+    (λ k q. refused-by P CLOCK (timeGoesOn (t .clock) τ) none (omega arith) (λ k q. absurd (Option·none-ne-some k q)) k q) k q) n e
   where
     P : ℕ → Type 0
-    P k = ¬ (k ≡ 6)
+    P k = k ≤ 3
 
 -- ── Refused and done ────────────────────────────────────────────────────────────────────────────────────────────────
 
@@ -189,6 +197,7 @@ step-fits h g room octets =
     by-check F (refuses h) OFFER (none-fits OFFER) (offerOk (g .offer)) λ _.
     by-place F (breaks h) (λ place. omega arith) (readMessage octets) λ m _ _.
     by-check F (refuses h) NOTQUERY (none-fits NOTQUERY) (not (m .response)) λ _.
+    by-check F (refuses h) KEYREC (none-fits KEYREC) (secondOk (judge h g m .decision) (g .second)) λ _.
     by-check F (refuses h) ROOM (none-fits ROOM) (leb (length (replyTo h g m)) room && leb (length (replyTo h g m)) 65535) λ e.
     leb-true _ _ (left (leb (length (replyTo h g m)) room) (leb (length (replyTo h g m)) 65535) e)
   where
@@ -198,24 +207,24 @@ step-fits h g room octets =
     none-fits : (n : ℕ) → F (refuses h n)
     none-fits n = omega arith
 
-pub message-fits : (t : Table) (time : ℕ) (good : Bool) (offer : List ℕ) (room : ℕ) (octets : List ℕ) → length (called t (message time good offer room octets) .outcome .reply) ≤ room
+pub message-fits : (t : Table) (given : Given) (room : ℕ) (octets : List ℕ) → length (called t (message given room octets) .outcome .reply) ≤ room
 unfolding unchanged refusal refusalAt stepOf timeOf
-message-fits t time good offer room octets = go (gate t (some time)) refl
+message-fits t given room octets = go (gate t (some (given .now))) refl
   where
     it : Call
-    it = message time good offer room octets
+    it = message given room octets
 
     at : Table
-    at = withClock t time
+    at = withClock t (given .now)
 
     F : Result → Type 0
     F r = length (r .outcome .reply) ≤ room
 
     served-fits : (o : Option ℕ) → F (servedBy at it o)
-    served-fits none = step-fits nobody (record { now = time; good = good; offer = offer }) room octets
-    served-fits (some i) = step-fits (holderAt at i) (record { now = time; good = good; offer = offer }) room octets
+    served-fits none = step-fits nobody given room octets
+    served-fits (some i) = step-fits (holderAt at i) given room octets
 
-    go : (g : Option ℕ) → gate t (some time) ≡ g → F (called t it)
+    go : (g : Option ℕ) → gate t (some (given .now)) ≡ g → F (called t it)
     go (some n) e = subst F (sym (refused-first t it n e)) (omega arith)
     go none e = subst F (sym (passes-first t it e ∙ served-is at it)) (served-fits (ownerOf (namesOf at) it))
 
@@ -244,9 +253,10 @@ module _ (octets : List ℕ) where
   reading-placed h next f (reads m end) e = f m
 
   answered-placed : (h : Holder) (g : Given) (room : ℕ) (m : Message) → P (answered h g room m)
-  unfolding answered leaves refusal refusalAt replied DONE FORMAT NOTQUERY ROOM
+  unfolding answered leaves refusal refusalAt replied DONE FORMAT NOTQUERY KEYREC ROOM
   answered-placed h g room m =
       by-check P (refuses h) NOTQUERY (λ e. absurd (omega (arith, e))) (not (m .response)) λ _.
+      by-check P (refuses h) KEYREC (λ e. absurd (omega (arith, e))) (secondOk (judge h g m .decision) (g .second)) λ _.
       by-check P (refuses h) ROOM (λ e. absurd (omega (arith, e))) (roomFor room (replyTo h g m)) λ _ e.
       absurd (omega (arith, e))
 
@@ -290,8 +300,83 @@ module _ (octets : List ℕ) where
       served-placed (some i) = f (holderAt at i)
 
       go : (g : Option ℕ) → gate t (timeOf c) ≡ g → F (called t c)
-      go (some n) e = subst F (sym (refused-first t c n e)) (λ q. absurd (not-format t (timeOf c) n e q))
+      go (some n) e = subst F (sym (refused-first t c n e)) (λ q. let f : n ≤ 3 = first-three t (timeOf c) n e in absurd (omega (arith, q)))
       go none e = subst F (sym (passes-first t c e ∙ served-is at c)) (served-placed (ownerOf (namesOf at) c))
+
+-- ── The lent record ─────────────────────────────────────────────────────────────────────────────────────────────────
+
+-- only a 4097 renewal's record is looked at
+looked-at : (d : Decision) (second : List ℕ) → secondOk d second ≡ false → (a : Algorithm) × (d ≡ Renews DiffieHellman a) × (isKeyRecord second ≡ false)
+unfolding secondOk lends
+looked-at Unsigned second e = absurd (false≢true (sym e))
+looked-at (Refused rcode error) second e = absurd (false≢true (sym e))
+looked-at (Passed skew) second e = absurd (false≢true (sym e))
+looked-at (Failed error) second e = absurd (false≢true (sym e))
+looked-at (Renews DiffieHellman a) second e = (a, refl, e)
+looked-at (Renews ServerAssignment a) second e = absurd (false≢true (sym e))
+looked-at (Renews ResolverAssignment a) second e = absurd (false≢true (sym e))
+looked-at Adopts second e = absurd (false≢true (sym e))
+looked-at Readopts second e = absurd (false≢true (sym e))
+looked-at Deletes second e = absurd (false≢true (sym e))
+looked-at Withdraws second e = absurd (false≢true (sym e))
+
+module _ (g : Given) (room : ℕ) (octets : List ℕ) where
+  abbrev Lent : Holder → Step → Type 0
+  Lent h s = s .outcome .answer .number ≡ KEYREC → WrongRecord h g octets
+
+  room-lent : (h : Holder) (m : Message) → Lent h (check (refuses h) ROOM (roomFor room (replyTo h g m)) (replied h g (judge h g m) (replyTo h g m)))
+  unfolding leaves refusal refusalAt replied DONE KEYREC ROOM
+  room-lent h m = by-check (Lent h) (refuses h) ROOM (λ e. absurd (omega (arith, e))) (roomFor room (replyTo h g m)) λ _ e. absurd (omega (arith, e))
+
+  answered-lent : (h : Holder) (m : Message) (end : ℕ) → readMessage octets ≡ reads m end → Lent h (answered h g room m)
+  unfolding answered leaves refusal refusalAt replied DONE NOTQUERY KEYREC ROOM
+  answered-lent h m end is =
+      by-check (Lent h) (refuses h) NOTQUERY (λ e. absurd (omega (arith, e))) (not (m .response)) λ _.
+      record-lent (secondOk (judge h g m .decision) (g .second)) refl
+    where
+      -- what follows NOTQUERY
+      record-lent : (b : Bool) → secondOk (judge h g m .decision) (g .second) ≡ b → Lent h (check (refuses h) KEYREC b (check (refuses h) ROOM (roomFor room (replyTo h g m)) (replied h g (judge h g m) (replyTo h g m))))
+      record-lent true ok = room-lent h m
+      record-lent false wrong = λ _.
+          let w = looked-at (judge h g m .decision) (g .second) wrong in
+          record { asked = m; end = end; readings = is; algorithm = w .0; decided = w .1; no-record = w .2 }
+
+  message-lent : (h : Holder) → Lent h (messageStep h g room octets)
+  unfolding messageStep leaves refusal refusalAt SIZE OFFER FORMAT KEYREC
+  message-lent h =
+      by-check (Lent h) (refuses h) SIZE (λ e. absurd (omega (arith, e))) (sizeOk octets) λ _.
+      by-check (Lent h) (refuses h) OFFER (λ e. absurd (omega (arith, e))) (offerOk (g .offer)) λ _.
+      by-place (Lent h) (breaks h) (λ place e. absurd (omega (arith, e))) (readMessage octets) (answered-lent h)
+
+  -- nobody is granted a renewal
+  nobody-renews : WrongRecord nobody g octets → ⊥
+  unfolding heldPair noPair
+  nobody-renews w =
+      let a = subst (Allows g (w .asked) noPair) (w .decided) (allows nobody g (w .asked)) in
+      Option·none-ne-some (a .allowed .signer) (a .allowed .is-signer)
+
+  abbrev Found : Table → Result → Type 0
+  Found t r = r .outcome .answer .number ≡ KEYREC → (i : ℕ) × (ownerOf (namesOf t) (message g room octets) ≡ some i) × WrongRecord (holderAt t i) g octets
+
+  served-lent : (t : Table) (o : Option ℕ) → ownerOf (namesOf t) (message g room octets) ≡ o → Found t (servedBy t (message g room octets) o)
+  unfolding stepOf
+  served-lent t none is = λ e. absurd (nobody-renews (message-lent nobody e))
+  served-lent t (some i) is = λ e. (i, is, message-lent (holderAt t i) e)
+
+  -- the clock is no part of it
+  lent-of : (t : Table) → Found t (called t (message g room octets))
+  unfolding unchanged refusal refusalAt KEYREC withClock namesOf holderAt suffixAt pairAt rowAt timeOf
+  lent-of t = go (gate t (some (g .now))) refl
+    where
+      it : Call
+      it = message g room octets
+
+      at : Table
+      at = withClock t (g .now)
+
+      go : (o : Option ℕ) → gate t (some (g .now)) ≡ o → Found t (called t it)
+      go (some n) e = subst (Found t) (sym (refused-first t it n e)) (λ q. let f : n ≤ 3 = first-three t (some (g .now)) n e in absurd (omega (arith, q)))
+      go none e = subst (Found t) (sym (passes-first t it e ∙ served-is at it)) (served-lent at (ownerOf (namesOf at) it) refl)
 
 pub demand1 : Demand1
 unfolding newTable messageOn lookOn stepOf bufferAfter
@@ -299,8 +384,9 @@ demand1 = record {
   every-call = operation-safe;
   new-done = λ t time e. rw e refl;
   new-refused = λ t time e. rw e refl;
-  buffer-length = λ t time good offer octets buffer. put-length _ buffer (message-fits t time good offer (length buffer) octets);
-  buffer-untouched = λ t time good offer octets buffer n. untouched t (message time good offer (length buffer) octets) buffer n;
-  message-place = λ t time good offer octets room. call-placed octets t (message time good offer room octets) (λ h. message-placed octets h _ room);
+  buffer-length = λ t g octets buffer. put-length _ buffer (message-fits t g (length buffer) octets);
+  buffer-untouched = λ t g octets buffer n. untouched t (message g (length buffer) octets) buffer n;
+  message-place = λ t g octets room. call-placed octets t (message g room octets) (λ h. message-placed octets h g room);
   look-place = λ t octets. call-placed octets t (look octets) (look-placed octets);
+  keyrec-for = λ t g octets room. lent-of g room octets t;
 }

@@ -1,7 +1,7 @@
 -- Demand 2: over any run from a new table no name is made twice, a granted renewal's name is new, an adoption puts the new key in and the old one out in
 -- one step, and the table rules are kept. Assumes nothing.
 use mathlib.Core.Path.{_≡_}
-use mathlib.Core.Bool.{true}
+use mathlib.Core.Bool.{Bool, true}
 use mathlib.Core.Option.{none, some}
 use mathlib.Core.List.{List, _++_, List·Memᴰ}
 use Prim.Native.Nat.{ℕ, _%_}
@@ -13,13 +13,16 @@ use Rattle.model.specs.declared.Decision.the-variants.{Renews, Adopts}
 use Rattle.model.specs.Octets.{reads}
 use Rattle.model.specs.Names.{keyName}
 use Rattle.model.specs.Messages.{Record, Message, readMessage}
-use Rattle.model.specs.Tkey.{Tkey, onlyTkey, onlyKey}
-use Rattle.model.specs.Pairs.{made}
+use Rattle.model.specs.Tkey.{Tkey, onlyTkey, onlyKey, modeOf}
+use Rattle.model.specs.Pairs.{made, renewed}
 use Rattle.model.specs.Tables.{Row, Table, suffixAt, pairAt, namesOf, tableRules}
-use Rattle.model.specs.Judging.{waitingOf, Given, judge}
-use Rattle.model.specs.Replies.{heading, tkeyData, tkeyRecord, echoed}
+use Rattle.model.specs.Judging.{waitingOf, Given, offerServes, judge}
+use Rattle.model.specs.Replies.{heading, tkeyData, tkeyRecord, echoed, keyData, answersOf, behind, secondOk}
 use Rattle.model.specs.Calls.{emptyTable, newTable, gate, Call, message, ownerOf, holderAt, called}
 use Rattle.model.specs.Runs.{Operation, call, operatedAll, Has, keyMade, namesMade, NoneSame, Distinct}
+use Rattle.model.specs.declared.Scheme.{Scheme}
+use Rattle.model.specs.declared.Scheme.the-variants.{DiffieHellman, ServerAssignment, ResolverAssignment}
+use Rattle.model.specs.declared.Mode.the-variants.{Renewal}
 
 -- The table after a run from a new one, made in the place of an empty table.
 abbrev pub after : ℕ → List Operation → Table
@@ -36,7 +39,7 @@ pub record Ask : Type 0 where
   pub octets : List ℕ
 
 abbrev pub asks : Ask → Call
-asks q = message (q .given .now) (q .given .good) (q .given .offer) (q .room) (q .octets)
+asks q = message (q .given) (q .room) (q .octets)
 
 -- The call is done, of the pair in row i: it read the message m and decided d.
 pub record Decides (t : Table) (q : Ask) (i : ℕ) (m : Message) (d : Decision) : Type 0 where
@@ -47,32 +50,44 @@ pub record Decides (t : Table) (q : Ask) (i : ℕ) (m : Message) (d : Decision) 
   pub decided : judge (holderAt t i) (q .given) m .decision ≡ d
   pub finished : called t (asks q) .outcome .answer .number ≡ 0
 
--- A renewal that was granted, of the pair in row i, with the algorithm g.
-pub record Granted (t : Table) (q : Ask) (i : ℕ) (m : Message) (g : Algorithm) : Type 0 where
-  -- the request's TKEY and its KEY record
+-- 02, CR 10: "The caller's keying verdict says whether the KEY fits". 4098 does not look at it.
+abbrev pub fitServes : Scheme → Bool → Bool
+fitServes DiffieHellman fits = fits
+fitServes ServerAssignment fits = true
+fitServes ResolverAssignment fits = fits
+
+-- A renewal that was granted, of the pair in row i, with this scheme and the algorithm g.
+pub record Granted (t : Table) (q : Ask) (i : ℕ) (m : Message) (scheme : Scheme) (g : Algorithm) : Type 0 where
+  -- the request's TKEY, of the scheme's mode, its KEY record, which fits, the offer, which the scheme needs or not, and the lent record, where it lends one
   pub tkey : Tkey
   pub keyRecord : Record
   pub is-tkey : onlyTkey m ≡ some tkey
+  pub is-mode : modeOf (tkey .mode) ≡ Renewal scheme
   pub is-key : onlyKey m ≡ some keyRecord
+  pub is-fit : fitServes scheme (q .given .fits) ≡ true
+  pub offered : offerServes scheme (q .given .offer) ≡ true
+  pub is-lent : secondOk (Renews scheme g) (q .given .second) ≡ true
+  -- what becomes of the pair is the same whatever the scheme (02, CR 10: "What happens to the keys is proved once over the three modes")
+  pub pair-is : pairAt (called t (asks q) .table) i ≡ renewed (pairAt t i) (q .given .now) g
   -- the new key, made now, waits
   pub waiting : waitingOf (pairAt (called t (asks q) .table) i .keys) ≡ some (made (pairAt t i) (q .given .now) g)
   -- its name is the one that the call made
   pub name : List ℕ
   pub is-name : name ≡ keyName (made (pairAt t i) (q .given .now) g .serial) (suffixAt t i)
   pub is-made : keyMade t (call (asks q)) ≡ some name
-  -- the reply hands out this name, the new key's times and the offer
+  -- the reply hands out this name, the new key's times and the scheme's key data
   pub says :
       called t (asks q) .outcome .reply
-      ≡ heading m 0 1 1
+      ≡ heading m 0 (answersOf scheme) 1
       ++ (tkeyRecord name
       (tkeyData (tkey .algorithm)
       (made (pairAt t i) (q .given .now) g .inception % 4294967296)
       (made (pairAt t i) (q .given .now) g .expiry % 4294967296)
       (tkey .mode)
       0
-      (q .given .offer)
+      (keyData scheme tkey (q .given .offer))
       (tkey .other))
-      ++ echoed keyRecord)
+      ++ (behind scheme (q .given .second) ++ echoed keyRecord))
 
 -- An adoption: a key waited beside the adopted one, and in the one step it is the adopted key and the only one.
 pub record AtOnce (t u : Table) (i : ℕ) : Type 0 where
@@ -91,11 +106,11 @@ pub record Demand2 : Type 0 where
       → Has (r .pair .keys) k
       → List·Memᴰ (keyName (k .serial) (r .suffix)) (madeBy time os)
   -- a granted renewal makes a waiting key and hands out its name, on every table that passes the gate
-  pub renewal-grants : (t : Table) (q : Ask) (i : ℕ) (m : Message) (g : Algorithm) → Decides t q i m (Renews g) → Granted t q i m g
+  pub renewal-grants : (t : Table) (q : Ask) (i : ℕ) (m : Message) (scheme : Scheme) (g : Algorithm) → Decides t q i m (Renews scheme g) → Granted t q i m scheme g
   -- and after a run from a new table no key had that name before
   pub renewal-new :
-      (time : ℕ) (os : List Operation) (q : Ask) (i : ℕ) (m : Message) (g : Algorithm) (d : Decides (after time os) q i m (Renews g))
-      → NoneSame (renewal-grants (after time os) q i m g d .name) (madeBy time os)
+      (time : ℕ) (os : List Operation) (q : Ask) (i : ℕ) (m : Message) (scheme : Scheme) (g : Algorithm) (d : Decides (after time os) q i m (Renews scheme g))
+      → NoneSame (renewal-grants (after time os) q i m scheme g d .name) (madeBy time os)
   -- an adoption puts the new key in and the old one out together, on every table that passes the gate
   pub adopts-at-once : (t : Table) (q : Ask) (i : ℕ) (m : Message) → Decides t q i m Adopts → AtOnce t (called t (asks q) .table) i
   -- a run keeps the table rules

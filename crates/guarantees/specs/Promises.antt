@@ -2,23 +2,29 @@
 -- (operator, looking, server, batches): each is an equation with one of these definitions, on the table that the lent words and octets show. Assumes
 -- nothing.
 use mathlib.Core.Path.{_≡_}
+use mathlib.Core.Bool.{true}
 use mathlib.Core.Option.{none, some}
 use mathlib.Core.List.{List, [], _∷_, map}
 use Prim.Native.Nat.{ℕ}
 use Rattle.model.specs.declared.Algorithm.the-variants.{Sha256}
+use Rattle.model.specs.declared.Scheme.{Scheme}
+use Rattle.model.specs.declared.Scheme.the-variants.{DiffieHellman, ServerAssignment, ResolverAssignment}
+use Rattle.model.specs.declared.Decision.the-variants.{Renews}
 use Rattle.model.specs.Names.{keyName}
+use Rattle.model.specs.Messages.{Message}
 use Rattle.model.specs.Calls.{Outcome, Call, issue}
 use Rattle.model.specs.Runs.{call, log, NeverBack, frameOf, belongs}
 use Rattle.model.specs.Tables.{tableRules}
 use Rattle.model.specs.Batches.{Batched, batchOn, batch, allCalls, Roomy}
 use Rattle.guarantees.specs.Refusals.{Demand1}
-use Rattle.guarantees.specs.Freshness.{after, Demand2}
+use Rattle.guarantees.specs.Freshness.{after, Ask, Decides, Demand2}
 use Rattle.guarantees.specs.Gone.{Goes, SignedWith, Demand8}
 use Rattle.guarantees.specs.Isolation.{Demand3, AtAnyTimes, InAnyOrder}
 use Rattle.guarantees.specs.Batches.{BatchesSafe, Demand3Batches, AtAnyRoom}
 use Rattle.guarantees.specs.Sample.{table, calls, lent, items}
 use Rattle.model.proofs.Requests.{suffix, ordinary}
 use Rattle.model.proofs.Day.{cases, All, opening, first}
+use Rattle.model.proofs.Keying.{good, nonce, server}
 
 -- The numbers that the calls of a run end with.
 abbrev pub numbers : List (Call × Outcome) → List ℕ
@@ -26,6 +32,13 @@ numbers l = map (λ x. x .1 .answer .number) l
 
 abbrev pub batchNumbers : Batched → List ℕ
 batchNumbers r = map (λ (o : Outcome). o .answer .number) (r .outcomes)
+
+-- The day's key 1 asks for a renewal of this mode, lent all that any scheme needs; it is granted.
+abbrev pub renewing : ℕ → Ask
+renewing mode = record { given = record { now = 1200; good = true; offer = nonce; fits = true; second = server }; room = 512; octets = good mode }
+
+abbrev pub Grants : ℕ → Scheme → Type 0
+Grants mode scheme = (m : Message) × Decides (after 1000 opening) (renewing mode) 0 m (Renews scheme Sha256)
 
 pub record Promises : Type 0 where
   -- each call ends with an answer or a refusal of its list, and a refusal changes nothing but, where the paper says so, the clock
@@ -50,6 +63,8 @@ pub record Promises : Type 0 where
   -- nor is the claim on gone keys: key 1 of the day goes with an issue at 1200, and this query is signed with its name and algorithm
   pub sample-goes : Goes (after 1000 opening) (call (issue 1200 1 256)) suffix first
   pub sample-signed : SignedWith (ordinary 1 1250) (keyName 1 suffix) Sha256
+  -- nor is the claim on granted renewals: one of each scheme (02, CR 10)
+  pub sample-renewals : Grants 4097 DiffieHellman × Grants 4098 ServerAssignment × Grants 4099 ResolverAssignment
   -- and the claim on runs does not hold without its hypotheses
   pub needs-times : ¬ AtAnyTimes
   pub needs-order : ¬ InAnyOrder

@@ -7,23 +7,28 @@ use mathlib.Core.List.{List, [], _∷_}
 use Prim.Native.Nat.{ℕ}
 use lib.Dec.{eqb}
 use lib.ListN.{length}
-use Rattle.model.specs.Octets.{stops}
-use Rattle.model.specs.Messages.{readMessage}
-use Rattle.model.specs.Tables.{Table, withClock}
-use Rattle.model.specs.Calls.{DONE, TABLE, TIME, CLOCK, SIZE, OFFER, FORMAT, NOTQUERY, ROOM, NOPAIR, NOKEY, SPENT, NAME, TERM, TWIN, FULL, refusalAt, done, unchanged, gate, emptyTable, newTable, timeFits, Call, issue, revoke, look, message, timeOf, lookOn, messageOn, bufferAfter}
+use Rattle.model.specs.declared.Algorithm.{Algorithm}
+use Rattle.model.specs.declared.Scheme.the-variants.{DiffieHellman}
+use Rattle.model.specs.declared.Decision.the-variants.{Renews}
+use Rattle.model.specs.Octets.{stops, reads}
+use Rattle.model.specs.Messages.{Message, readMessage}
+use Rattle.model.specs.Tkey.{isKeyRecord}
+use Rattle.model.specs.Tables.{Table, withClock, namesOf}
+use Rattle.model.specs.Calls.{DONE, TABLE, TIME, CLOCK, SIZE, OFFER, FORMAT, NOTQUERY, ROOM, NOPAIR, NOKEY, SPENT, NAME, TERM, TWIN, FULL, refusalAt, done, unchanged, gate, emptyTable, newTable, timeFits, Call, issue, revoke, look, message, timeOf, ownerOf, holderAt, lookOn, messageOn, bufferAfter, KEYREC}
 use Rattle.model.specs.Runs.{Operation, enrol, call, operated}
+use Rattle.model.specs.Judging.{Holder, Given, judge}
 
 abbrev pub isOne : ℕ → List ℕ → Bool
 isOne n [] = false
 isOne n (m ∷ ms) = eqb n m || isOne n ms
 
 -- 01, "Numbers a caller sees": "The order is 1, 2, 3, then for a message 4 to 8, for issue 9, 11, 13, for revoke 9, 10, for enrol 12 to 15. Look gives
--- 1, 4, 6 and 7 only."
+-- 1, 4, 6 and 7 only." 02, CR 10 puts 19 before a message's 8.
 unfoldable pub ownRefusals : Call → List ℕ
 ownRefusals (issue time number algorithm) = NOPAIR ∷ SPENT ∷ TERM ∷ []
 ownRefusals (revoke time number) = NOPAIR ∷ NOKEY ∷ []
 ownRefusals (look octets) = SIZE ∷ FORMAT ∷ NOTQUERY ∷ []
-ownRefusals (message time good offer room octets) = SIZE ∷ OFFER ∷ FORMAT ∷ NOTQUERY ∷ ROOM ∷ []
+ownRefusals (message g room octets) = SIZE ∷ OFFER ∷ FORMAT ∷ NOTQUERY ∷ KEYREC ∷ ROOM ∷ []
 
 abbrev pub firstRefusals : Option ℕ → List ℕ → List ℕ
 firstRefusals none own = TABLE ∷ own
@@ -57,6 +62,15 @@ pub record Safe (t : Table) (o : Operation) : Type 0 where
   -- and the place is beside FORMAT alone (02, CR 6)
   pub placed : ¬ (operated t o .outcome .answer .number ≡ FORMAT) → operated t o .outcome .answer .place ≡ 0
 
+-- A 4097 renewal that would be granted, and a lent record that is none.
+pub record WrongRecord (h : Holder) (g : Given) (octets : List ℕ) : Type 0 where
+  pub asked : Message
+  pub end : ℕ
+  pub readings : readMessage octets ≡ reads asked end
+  pub algorithm : Algorithm
+  pub decided : judge h g asked .decision ≡ Renews DiffieHellman algorithm
+  pub no-record : isKeyRecord (g .second) ≡ false
+
 pub record Demand1 : Type 0 where
   pub every-call : (t : Table) (o : Operation) → Safe t o
   -- a new table has no pairs, and is refused only with TIME: then the lent one is left
@@ -64,18 +78,23 @@ pub record Demand1 : Type 0 where
   pub new-refused : (t : Table) (time : ℕ) → timeFits time ≡ false → newTable t time ≡ unchanged t TIME
   -- the lent buffer keeps its length, and a refusal leaves every octet of it
   pub buffer-length :
-      (t : Table) (time : ℕ) (good : Bool) (offer octets buffer : List ℕ)
-      → length (bufferAfter (messageOn t time good offer (length buffer) octets) buffer) ≡ length buffer
+      (t : Table) (g : Given) (octets buffer : List ℕ)
+      → length (bufferAfter (messageOn t g (length buffer) octets) buffer) ≡ length buffer
   pub buffer-untouched :
-      (t : Table) (time : ℕ) (good : Bool) (offer octets buffer : List ℕ)
-      → ¬ (messageOn t time good offer (length buffer) octets .outcome .answer .number ≡ DONE)
-      → bufferAfter (messageOn t time good offer (length buffer) octets) buffer ≡ buffer
+      (t : Table) (g : Given) (octets buffer : List ℕ)
+      → ¬ (messageOn t g (length buffer) octets .outcome .answer .number ≡ DONE)
+      → bufferAfter (messageOn t g (length buffer) octets) buffer ≡ buffer
   -- beside FORMAT, message and look return the place where reading the message first failed (02, CR 6)
   pub message-place :
-      (t : Table) (time : ℕ) (good : Bool) (offer octets : List ℕ) (room : ℕ)
-      → messageOn t time good offer room octets .outcome .answer .number ≡ FORMAT
-      → readMessage octets ≡ stops (messageOn t time good offer room octets .outcome .answer .place)
+      (t : Table) (g : Given) (octets : List ℕ) (room : ℕ)
+      → messageOn t g room octets .outcome .answer .number ≡ FORMAT
+      → readMessage octets ≡ stops (messageOn t g room octets .outcome .answer .place)
   pub look-place :
       (t : Table) (octets : List ℕ)
       → lookOn t octets .outcome .answer .number ≡ FORMAT
       → readMessage octets ≡ stops (lookOn t octets .outcome .answer .place)
+  -- KEYREC is for a 4097 renewal of a pair that would be granted, and a lent record that is none; for nothing else (02, CR 10)
+  pub keyrec-for :
+      (t : Table) (g : Given) (octets : List ℕ) (room : ℕ)
+      → messageOn t g room octets .outcome .answer .number ≡ KEYREC
+      → (i : ℕ) × (ownerOf (namesOf t) (message g room octets) ≡ some i) × WrongRecord (holderAt t i) g octets

@@ -62,7 +62,7 @@ module _ (a : Array) where
   owner-same (issue time number algorithm) = number-same number
   owner-same (revoke time number) = number-same number
   owner-same (look octets) = octets-same octets
-  owner-same (message time good offer room octets) = octets-same octets
+  owner-same (message g room octets) = octets-same octets
 
   holder-same : (i : ℕ) → i < a .count → holderIn a i ≡ holderAt (viewOf a) i
   unfolding holderIn holderAt suffixAt pairAt rowIn

@@ -74,9 +74,9 @@ contracts = record {
   issues = λ time pair algorithm w s w′ s′ a v. ap single (sym (v .says));
   revokes = λ time pair w s w′ s′ a v. ap single (sym (v .says));
   looks = λ m w s a e. ap single (sym e);
-  messages = λ time good offer m own w s w′ b b′ a v. record {
-    outcome = messageOn (tableOf w s) time good offer (length b) m .outcome;
-    does = ap {B = Batched} (λ (t : Table). record { number = DONE; table = t; outcomes = messageOn (tableOf w s) time good offer (length b) m .outcome ∷ [] }) (sym (v .shows));
+  messages = λ g m own w s w′ b b′ a v. record {
+    outcome = messageOn (tableOf w s) g (length b) m .outcome;
+    does = ap {B = Batched} (λ (t : Table). record { number = DONE; table = t; outcomes = messageOn (tableOf w s) g (length b) m .outcome ∷ [] }) (sym (v .shows));
     answer = v .answers;
     reply = v .replies;
   };

@@ -100,7 +100,7 @@ unfoldable pub ownerIn : Array → Call → Option ℕ
 ownerIn a (issue time number algorithm) = numberIn a number
 ownerIn a (revoke time number) = numberIn a number
 ownerIn a (look octets) = octetsIn a octets
-ownerIn a (message time good offer room octets) = octetsIn a octets
+ownerIn a (message g room octets) = octetsIn a octets
 
 unfoldable pub holderIn : Array → ℕ → Holder
 holderIn a i = holder (i + 1) (suffixIn a i) (getD (a .pairs) i noPair)

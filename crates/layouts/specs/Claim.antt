@@ -10,6 +10,7 @@ use Rattle.model.specs.declared.Answer.{Answer}
 use Rattle.model.specs.declared.BatchItem.{BatchItem}
 use Rattle.model.specs.Octets.{put}
 use Rattle.model.specs.Tables.{Table}
+use Rattle.model.specs.Judging.{Given}
 use Rattle.model.specs.Calls.{TABLE, Outcome, unchanged, issue, revoke, look, message, enrolOn, issueOn, revokeOn, lookOn, messageOn}
 use Rattle.model.specs.Runs.{Operation, enrol, call, operated}
 use Rattle.model.specs.Batches.{refusedWhole, batchOn, repliesOf}
@@ -39,9 +40,9 @@ pub record BatchDone (octets : List ℕ) (xs : List BatchItem) (w s w′ a a′ 
   pub replies : b′ ≡ put (repliesOf outcomes) b
 
 -- A message call that was answered so.
-pub record Messaged (time : ℕ) (good : Bool) (offer m w s w′ b b′ : List ℕ) (a : Answer) : Type 0 where
+pub record Messaged (g : Given) (m w s w′ b b′ : List ℕ) (a : Answer) : Type 0 where
   pub outcome : Outcome
-  pub does : Does shownIn (w, s) (on (call (message time good offer (length b) m))) (w′, s) (alone outcome)
+  pub does : Does shownIn (w, s) (on (call (message g (length b) m))) (w′, s) (alone outcome)
   pub answer : a ≡ outcome .answer
   pub reply : b′ ≡ put (outcome .reply) b
 
@@ -66,9 +67,9 @@ pub record Contracts : Type 1 where
   pub looks : (m w s : List ℕ) (a : Answer) → shown w s a ≡ lookOn (tableOf w s) m → Does shownIn (w, s) (on (call (look m))) (w, s) (alone (record { answer = a; reply = [] }))
   -- a message's outcome is its answer, and a reply that fills the first octets of its buffer
   pub messages :
-      (time : ℕ) (good : Bool) (offer m : List ℕ) (own : Option ℕ) (w s w′ b b′ : List ℕ) (a : Answer)
-      → Answered (λ t. messageOn t time good offer (length b) m) own w s w′ b b′ a
-      → Messaged time good offer m w s w′ b b′ a
+      (g : Given) (m : List ℕ) (own : Option ℕ) (w s w′ b b′ : List ℕ) (a : Answer)
+      → Answered (λ t. messageOn t g (length b) m) own w s w′ b b′ a
+      → Messaged g m w s w′ b b′ a
   -- a batch's outcomes are the answers told, and replies one after another in the first octets of its buffer
   pub batches :
       (octets : List ℕ) (xs : List BatchItem) (w s w′ a a′ b b′ : List ℕ) (n : ℕ)

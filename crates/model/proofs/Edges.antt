@@ -18,7 +18,7 @@ use Rattle.model.specs.Tables.{Row, Table, tableRules}
 use Rattle.model.specs.Replies.{recordOctets}
 use Rattle.model.specs.Calls.{Outcome, Result, emptyTable, newTable, sizeOk, roomFor, Call, issue, revoke, look, message, ownerOf, bufferAfter}
 use Rattle.model.specs.Runs.{Operation, enrol, call, operated}
-use Rattle.model.proofs.Requests.{suffix, otherSuffix, headerOf, header, question, rootQuery, stamp, tsig, ordinary, renewalBy}
+use Rattle.model.proofs.Requests.{unkeyed, suffix, otherSuffix, headerOf, header, question, rootQuery, stamp, tsig, ordinary, renewalBy}
 use Rattle.model.proofs.Running.{after}
 use Rattle.model.proofs.Day.{at, key, first}
 
@@ -72,7 +72,7 @@ sizes = (refl, refl, refl, refl, refl, refl, refl, refl)
 
 -- OFFER: "offered key data over 1024 octets"
 abbrev offering : ℕ → ℕ
-offering n = number enrolled (call (message 1000 true (replicate n 1) 0 (ordinary 1 1000)))
+offering n = number enrolled (call (message (unkeyed 1000 true (replicate n 1)) 0 (ordinary 1 1000)))
 
 pub offers : (offering 1024 ≡ 0) × (offering 1025 ≡ 5)
 unfolding after
@@ -80,8 +80,8 @@ offers = (refl, refl)
 
 -- ROOM: "reply longer than the lent reply buffer or than 65,535 octets". A reply of 17 octets.
 pub rooms :
-    (number enrolled (call (message 1400 true [] 17 (ordinary 1 1400))) ≡ 0)
-    × (number enrolled (call (message 1400 true [] 16 (ordinary 1 1400))) ≡ 8)
+    (number enrolled (call (message (unkeyed 1400 true []) 17 (ordinary 1 1400))) ≡ 0)
+    × (number enrolled (call (message (unkeyed 1400 true []) 16 (ordinary 1 1400))) ≡ 8)
     × (roomFor 65536 (replicate 65535 0) ≡ true)
     × (roomFor 65536 (replicate 65536 0) ≡ false)
 unfolding after
@@ -113,7 +113,7 @@ pub gate-order :
     Gated (λ time. enrol time [] 0 0 0)
     × Gated (λ time. call (issue time 0 0))
     × Gated (λ time. call (revoke time 0))
-    × Gated (λ time. call (message time false (replicate 1025 0) 0 []))
+    × Gated (λ time. call (message (unkeyed time false (replicate 1025 0)) 0 []))
 unfolding after
 gate-order = ((refl, refl, refl), (refl, refl, refl), (refl, refl, refl), (refl, refl, refl))
 
@@ -174,7 +174,7 @@ abbrev asked : ℕ → List ℕ
 asked flags = headerOf 4660 flags 1 0 0 0 ++ question (0 ∷ []) 249 255
 
 abbrev sent : List ℕ → List ℕ → ℕ
-sent offer octets = number enrolled (call (message 1000 true offer 0 octets))
+sent offer octets = number enrolled (call (message (unkeyed 1000 true offer) 0 octets))
 
 pub message-order :
     (sent (replicate 1025 0) (replicate 11 255) ≡ 4)
@@ -201,8 +201,8 @@ pub refusals-whole :
     (operated enrolled (enrol 1100 [] 600 400 256) ≡ leaving (one 1100 2 (Adopted first)) (refused 12))
     × (operated enrolled (call (issue 1100 1 1)) ≡ leaving (one 1100 2 (Adopted first)) (refused 13))
     × (operated enrolled (call (revoke 1600 1)) ≡ leaving (one 1600 2 (Adopted first)) (refused 10))
-    × (operated enrolled (call (message 1200 true (1 ∷ 2 ∷ 3 ∷ 4 ∷ []) 113 (renewalBy 1 1200))) ≡ leaving (one 1200 2 (Adopted first)) (refused 8))
-    × (operated enrolled (call (message 1200 true (1 ∷ 2 ∷ 3 ∷ 4 ∷ []) 114 (renewalBy 1 1200))) .outcome .answer .number ≡ 0)
+    × (operated enrolled (call (message (unkeyed 1200 true (1 ∷ 2 ∷ 3 ∷ 4 ∷ [])) 113 (renewalBy 1 1200))) ≡ leaving (one 1200 2 (Adopted first)) (refused 8))
+    × (operated enrolled (call (message (unkeyed 1200 true (1 ∷ 2 ∷ 3 ∷ 4 ∷ [])) 114 (renewalBy 1 1200))) .outcome .answer .number ≡ 0)
     × (operated enrolled (call (issue 999 1 256)) ≡ leaving enrolled (refused 3))
 unfolding after
 refusals-whole = (refl, refl, refl, refl, refl, refl)
@@ -309,7 +309,7 @@ numbered = (refl, refl, refl, refl)
 
 -- "A reply fills the first octets of its buffer; the rest keep their contents." A reply of 17 octets in a buffer of 20; no reply; no room.
 abbrev lent : ℕ → ℕ → List ℕ
-lent time room = bufferAfter (operated enrolled (call (message time true [] room (ordinary 1 time)))) (replicate room 7)
+lent time room = bufferAfter (operated enrolled (call (message (unkeyed time true []) room (ordinary 1 time)))) (replicate room 7)
 
 pub buffers :
     (lent 1400 20 ≡ 18 ∷ 52 ∷ 128 ∷ 9 ∷ 0 ∷ 1 ∷ 0 ∷ 0 ∷ 0 ∷ 0 ∷ 0 ∷ 0 ∷ 0 ∷ 0 ∷ 1 ∷ 0 ∷ 1 ∷ 7 ∷ 7 ∷ 7 ∷ [])

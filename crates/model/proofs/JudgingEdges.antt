@@ -17,7 +17,7 @@ use Rattle.model.specs.Judging.{inTime}
 use Rattle.model.specs.Replies.{recordOctets, tkeyData}
 use Rattle.model.specs.Calls.{Result, message}
 use Rattle.model.specs.Runs.{call, operated}
-use Rattle.model.proofs.Requests.{suffix, otherSuffix, headerOf, header, question, rootQuery, stampFor, stamp, tsig, ordinary, old, keyRecord, renewalOf, renewalBy, tkeyBy}
+use Rattle.model.proofs.Requests.{unkeyed, suffix, otherSuffix, headerOf, header, question, rootQuery, stampFor, stamp, tsig, ordinary, old, keyRecord, renewalOf, renewalBy, tkeyBy}
 use Rattle.model.proofs.Running.{after}
 use Rattle.model.proofs.Day.{Seen, seen, key, first, passes, refuses}
 use Rattle.model.proofs.Edges.{one, two, enrolled, renewing, signedBy}
@@ -26,7 +26,7 @@ use Rattle.model.proofs.Edges.{one, two, enrolled, renewing, signedBy}
 
 -- A message at a time with this verdict, an offer of four octets, and room.
 abbrev sent : Table → ℕ → Bool → List ℕ → Result
-sent t time good octets = operated t (call (message time good (1 ∷ 2 ∷ 3 ∷ 4 ∷ []) 512 octets))
+sent t time good octets = operated t (call (message (unkeyed time good (1 ∷ 2 ∷ 3 ∷ 4 ∷ [])) 512 octets))
 
 abbrev shown : Table → ℕ → Bool → List ℕ → Seen
 shown t time good octets = seen (sent t time good octets)
@@ -155,14 +155,14 @@ revoked-deletion = refl
 abbrev ended : Seen → Option ℕ × Option ℕ × Keys
 ended s = (s .rcode, s .tkey, s .keys)
 
--- 9. "A mode other than 5, 4098 and 4100: TKEY error BADMODE."
+-- 9. "A mode other than 5, 4098 and 4100: TKEY error BADMODE"; of 4097 and 4099 it is not (02, CR 10).
 abbrev ofMode : ℕ → Option ℕ × Option ℕ × Keys
 ofMode mode = ended (shown enrolled 1000 true (tkeyBy 1 1 mode [] [] 1000))
 
 abbrev badMode : Option ℕ × Option ℕ × Keys
 badMode = (some 0, some 19, Adopted first)
 
-pub bad-modes : (ofMode 0 ≡ badMode) × (ofMode 4 ≡ badMode) × (ofMode 4097 ≡ badMode) × (ofMode 4099 ≡ badMode) × (ofMode 65535 ≡ badMode)
+pub bad-modes : (ofMode 0 ≡ badMode) × (ofMode 4 ≡ badMode) × (ofMode 4096 ≡ badMode) × (ofMode 4101 ≡ badMode) × (ofMode 65535 ≡ badMode)
 unfolding seen after
 bad-modes = (refl, refl, refl, refl, refl)
 
@@ -191,7 +191,7 @@ renewal old keys algorithm expiration =
     request 0 0 (suc keys) (recordOctets (0 ∷ []) 249 255 0 (tkeyData algorithm 1200 expiration 4098 0 [] old) ++ keyRecords keys) 1200
 
 abbrev renewed : ℕ → List ℕ → List ℕ → Option ℕ × Option ℕ × Keys
-renewed next offer octets = ended (seen (operated (one 1000 next (Adopted first)) (call (message 1200 true offer 512 octets))))
+renewed next offer octets = ended (seen (operated (one 1000 next (Adopted first)) (call (message (unkeyed 1200 true offer) 512 octets))))
 
 abbrev failed : ℕ → Option ℕ × Option ℕ × Keys
 failed error = (some 0, some error, Adopted first)

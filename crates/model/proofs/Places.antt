@@ -7,6 +7,7 @@ use lib.ListN.{replicate}
 use Rattle.model.specs.Calls.{emptyTable, look, message}
 use Rattle.model.specs.Runs.{Operation, call, operated}
 use Rattle.model.proofs.Running.{after}
+use Rattle.model.proofs.Requests.{unkeyed}
 
 -- A query with so many questions and answers, and these octets behind its header.
 abbrev asked : ℕ → ℕ → List ℕ → List ℕ
@@ -82,11 +83,11 @@ left-over = (refl, refl)
 
 -- "Message and look return that place beside FORMAT", and beside no other number: SIZE, NOTQUERY, OFFER and DONE have 0.
 pub beside-format :
-    (told (call (message 1000 true [] 512 (asked 1 0 (192 ∷ 12 ∷ soa)))) ≡ (6, 12))
-    × (told (call (message 1000 true [] 512 (asked 1 0 (1 ∷ 97 ∷ 64 ∷ soa)))) ≡ (6, 14))
+    (told (call (message (unkeyed 1000 true []) 512 (asked 1 0 (192 ∷ 12 ∷ soa)))) ≡ (6, 12))
+    × (told (call (message (unkeyed 1000 true []) 512 (asked 1 0 (1 ∷ 97 ∷ 64 ∷ soa)))) ≡ (6, 14))
     × (told (call (look (18 ∷ 52 ∷ []))) ≡ (4, 0))
     × (told (call (look (18 ∷ 52 ∷ 128 ∷ 0 ∷ 0 ∷ 0 ∷ 0 ∷ 0 ∷ 0 ∷ 0 ∷ 0 ∷ 0 ∷ []))) ≡ (7, 0))
-    × (told (call (message 1000 true (replicate 1025 0) 512 (asked 1 0 (192 ∷ 12 ∷ soa)))) ≡ (5, 0))
+    × (told (call (message (unkeyed 1000 true (replicate 1025 0)) 512 (asked 1 0 (192 ∷ 12 ∷ soa)))) ≡ (5, 0))
     × (one (0 ∷ soa) ≡ (0, 0))
 unfolding after
 beside-format = (refl, refl, refl, refl, refl, refl)

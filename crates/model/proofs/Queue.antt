@@ -10,15 +10,15 @@ use Rattle.model.specs.declared.Keys.the-variants.{Adopted}
 use Rattle.model.specs.Tables.{Table, pairAt}
 use Rattle.model.specs.Calls.{Outcome, issue, message, emptyTable}
 use Rattle.model.specs.Runs.{enrol}
-use Rattle.model.specs.Batches.{BATCH, inside, batchOk, itemCall, Batched, refusedWhole, inTurn, batchOn, repliesOf, batchBuffer, Job, call, batch, callsOf, allCalls, doneJob, finalOf, jobLog, eachReplies}
-use Rattle.model.proofs.Requests.{suffix, ordinary, renewalBy}
+use Rattle.model.specs.Batches.{BATCH, inside, batchOk, givenBy, itemCall, Batched, refusedWhole, inTurn, batchOn, repliesOf, batchBuffer, Job, call, batch, callsOf, allCalls, doneJob, finalOf, jobLog, eachReplies}
+use Rattle.model.proofs.Requests.{suffix, unkeyed, ordinary, renewalBy}
 use Rattle.model.proofs.Running.{after}
 use Rattle.model.proofs.Day.{first}
 use Rattle.model.proofs.Edges.{two}
 
 -- Every definition of batches opened.
 unfoldable opened : Batched → Batched
-unfolding after BATCH inside batchOk itemCall refusedWhole inTurn batchOn repliesOf batchBuffer callsOf doneJob
+unfolding after BATCH inside batchOk givenBy itemCall refusedWhole inTurn batchOn repliesOf batchBuffer callsOf doneJob
 opened r = r
 
 -- The table of 01's day just after enrolment; one whose clock breaks a rule.
@@ -44,10 +44,10 @@ both = length renews + length asks
 
 -- The items: the renewal at a time, with a verdict and the offer or a part of it; the query at 1201.
 abbrev renewal : ℕ → Bool → ℕ → BatchItem
-renewal time good size = record { time = time; good = good; message = record { from = 0; size = length renews }; offer = record { from = both; size = size } }
+renewal time good size = record { time = time; good = good; message = record { from = 0; size = length renews }; offer = record { from = both; size = size }; fits = false; second = record { from = 0; size = 0 } }
 
 abbrev query : BatchItem
-query = record { time = 1201; good = true; message = record { from = length renews; size = length asks }; offer = record { from = 0; size = 0 } }
+query = record { time = 1201; good = true; message = record { from = length renews; size = length asks }; offer = record { from = 0; size = 0 }; fits = false; second = record { from = 0; size = 0 } }
 
 abbrev items : List BatchItem
 items = renewal 1200 true 2 ∷ query ∷ []
@@ -99,13 +99,17 @@ rooms = (refl, refl, refl, refl)
 -- "17 BATCH for more than 64 items or one outside the lent octets, before everything but TABLE; the table's clock stays." None, 64 and 65 items; a message and an
 -- offer up to the last octet, and an octet more; a message and an offer of no octets at the end, and behind it; TABLE first.
 abbrev empties : ℕ → ℕ → BatchItem
-empties from offer = record { time = 1200; good = true; message = record { from = from; size = 0 }; offer = record { from = offer; size = 0 } }
+empties from offer = record { time = 1200; good = true; message = record { from = from; size = 0 }; offer = record { from = offer; size = 0 }; fits = false; second = record { from = 0; size = 0 } }
 
 abbrev empty : ℕ → BatchItem
 empty from = empties from from
 
+-- and a lent record likewise (02, CR 10)
+abbrev lending : ℕ → ℕ → BatchItem
+lending from size = record { time = 1200; good = true; message = record { from = 0; size = 0 }; offer = record { from = 0; size = 0 }; fits = true; second = record { from = from; size = size } }
+
 abbrev whole : ℕ → BatchItem
-whole size = record { time = 1200; good = true; message = record { from = 2; size = size }; offer = record { from = 0; size = 0 } }
+whole size = record { time = 1200; good = true; message = record { from = 2; size = size }; offer = record { from = 0; size = 0 }; fits = false; second = record { from = 0; size = 0 } }
 
 pub refused-whole :
     (at 200 [] ≡ record { number = 0; table = table; outcomes = [] })
@@ -117,13 +121,16 @@ pub refused-whole :
     × (ends (at 200 (empty (both + 2) ∷ [])) ≡ (4, (0, 0)) ∷ [])
     × (at 200 (empties (both + 3) 0 ∷ []) ≡ refusedWhole table 17)
     × (at 200 (empties 0 (both + 3) ∷ []) ≡ refusedWhole table 17)
+    × (at 200 (lending (both + 3) 0 ∷ []) ≡ refusedWhole table 17)
+    × (at 200 (lending both 3 ∷ []) ≡ refusedWhole table 17)
+    × (at 200 (lending both 2 ∷ []) .number ≡ 0)
     × (batchOn broken octets (replicate 65 (empty 0)) 200 ≡ refusedWhole broken 1)
 unfolding opened
-refused-whole = (refl, refl, refl, refl, refl, refl, refl, refl, refl, refl)
+refused-whole = (refl, refl, refl, refl, refl, refl, refl, refl, refl, refl, refl, refl, refl)
 
 -- All else refuses an item alone: SIZE of 65,536 octets, OFFER of 1,025.
 abbrev long : ℕ → ℕ → BatchItem
-long size offer = record { time = 1200; good = true; message = record { from = 0; size = size }; offer = record { from = 0; size = offer } }
+long size offer = record { time = 1200; good = true; message = record { from = 0; size = size }; offer = record { from = 0; size = offer }; fits = false; second = record { from = 0; size = 0 } }
 
 pub refused-alone :
     (ends (batchOn table (replicate 65536 0) (long 65536 0 ∷ []) 200) ≡ (4, (0, 0)) ∷ [])
@@ -137,7 +144,7 @@ abbrev jobs : List Job
 jobs = call (issue 1100 1 256) ∷ batch octets items 300 ∷ batch octets (replicate 65 query) 300 ∷ []
 
 pub its-calls :
-    (allCalls true jobs ≡ issue 1100 1 256 ∷ message 1200 true (1 ∷ 2 ∷ []) 300 renews ∷ message 1201 true [] 300 asks ∷ [])
+    (allCalls true jobs ≡ issue 1100 1 256 ∷ message (unkeyed 1200 true (1 ∷ 2 ∷ [])) 300 renews ∷ message (unkeyed 1201 true []) 300 asks ∷ [])
     × (allCalls false jobs ≡ issue 1100 1 256 ∷ [])
     × (map (λ x. x .1 .number) (jobLog table jobs) ≡ 0 ∷ 0 ∷ 17 ∷ [])
     × (finalOf table jobs .clock ≡ 1201)

@@ -8,6 +8,7 @@ use lib.ListN.{replicate}
 use lib.IntN.{pos}
 use Rattle.model.specs.declared.Algorithm.the-variants.{Sha256, Sha384, Sha512}
 use Rattle.model.specs.declared.Named.the-variants.{Known, Unknown}
+use Rattle.model.specs.declared.Scheme.the-variants.{DiffieHellman, ServerAssignment, ResolverAssignment}
 use Rattle.model.specs.declared.Mode.the-variants.{Deletion, Renewal, Adoption, Reserved, Unsupported}
 use Rattle.model.specs.declared.Keys.the-variants.{Adopted}
 use Rattle.model.specs.Octets.{be16, be48, Reading, stops, reads}
@@ -17,7 +18,7 @@ use Rattle.model.specs.Tsig.{Tsig, Signature, misplaced, signature, tsig
 use Rattle.model.specs.Tkey.{Tkey, modeOf, tkeyOf}
 use Rattle.model.specs.Replies.{recordOctets, tkeyData}
 use Rattle.model.specs.Runs.{operated}
-use Rattle.model.proofs.Requests.{suffix, headerOf, question, rootQuery, stampOf, stamp, tsig, old}
+use Rattle.model.proofs.Requests.{unkeyed, suffix, headerOf, question, rootQuery, stampOf, stamp, tsig, old}
 use Rattle.model.proofs.Running.{after}
 use Rattle.model.proofs.Day.{Seen, seen, at, first, passes}
 use Rattle.model.proofs.Edges.{enrolled, number}
@@ -227,17 +228,21 @@ unfolding after
 tkey-fields = (refl, refl)
 
 -- "Modes: 5 deletion. .. 4098 server assignment for renewal, 4100 adoption. 0 and 65535 are reserved, the rest unsupported here."
+-- 02, CR 10: "Add them as modes 4097 and 4099."
 pub modes :
     (modeOf 5 ≡ Deletion)
-    × (modeOf 4098 ≡ Renewal)
+    × (modeOf 4097 ≡ Renewal DiffieHellman)
+    × (modeOf 4098 ≡ Renewal ServerAssignment)
+    × (modeOf 4099 ≡ Renewal ResolverAssignment)
     × (modeOf 4100 ≡ Adoption)
     × (modeOf 0 ≡ Reserved)
     × (modeOf 65535 ≡ Reserved)
     × (modeOf 1 ≡ Unsupported)
-    × (modeOf 4099 ≡ Unsupported)
+    × (modeOf 4096 ≡ Unsupported)
+    × (modeOf 4101 ≡ Unsupported)
     × (modeOf 65534 ≡ Unsupported)
 unfolding after
-modes = (refl, refl, refl, refl, refl, refl, refl, refl)
+modes = (refl, refl, refl, refl, refl, refl, refl, refl, refl, refl, refl)
 
 -- "Both fill RDLENGTH exactly": an octet too many; other size too large; data that ends before other size, and in the fixed fields. "A bad or compressed name
 -- in its data": 64 as first octet, with the other fields behind it and as the first of them, a name that is cut, a pointer to a 0 within the data.

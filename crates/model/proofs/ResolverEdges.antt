@@ -20,13 +20,13 @@ use Rattle.model.specs.declared.SignWith.the-variants.{Nobody, AdoptedKe
 use Rattle.model.specs.declared.Heard.{Heard}
 use Rattle.model.specs.Names.{keyName, algorithmName}
 use Rattle.model.specs.Replies.{recordOctets, tkeyData}
-use Rattle.model.specs.Resolver.{LOST, WRONGID, UNSIGNED, FORMAT, ROOM, NOKEY, nameOf, usable, adoptedKey, offeredKey, opened, noted, closed, Writing, unwritten, sent, requestOctets, oldKey, renewalOctets, adoptionOctets, deletionOctets, isKeyRecord, writtenRenewal, writtenAdoption, writtenDeletion, writtenInto, answerOther, answerKey, answerTimes, answerOf, answers, onlyAnswer, keyless, unheard, rcodeOf, accepted, heard, readReply}
+use Rattle.model.specs.Resolver.{LOST, WRONGID, UNSIGNED, FORMAT, ROOM, NOKEY, nameOf, usable, adoptedKey, offeredKey, opened, noted, closed, Writing, unwritten, sent, requestOctets, oldKey, renewalOctets, adoptionOctets, deletionOctets, writtenRenewal, writtenAdoption, writtenDeletion, writtenInto, answerOther, answerKey, answerTimes, answerOf, answers, onlyAnswer, keyless, unheard, rcodeOf, accepted, heard, readReply}
 use Rattle.model.proofs.Requests.{suffix, headerOf, question, stampFor, keyRecord}
 use Rattle.model.proofs.Running.{after}
 
 -- Every definition of the resolver's half opened.
 unfoldable open-all : Resolver → Resolver
-unfolding after LOST WRONGID UNSIGNED FORMAT ROOM NOKEY nameOf usable adoptedKey offeredKey opened noted closed unwritten sent requestOctets oldKey renewalOctets adoptionOctets deletionOctets isKeyRecord writtenRenewal writtenAdoption writtenDeletion writtenInto answerOther answerKey answerTimes answerOf answers onlyAnswer keyless unheard rcodeOf accepted heard readReply
+unfolding after LOST WRONGID UNSIGNED FORMAT ROOM NOKEY nameOf usable adoptedKey offeredKey opened noted closed unwritten sent requestOctets oldKey renewalOctets adoptionOctets deletionOctets writtenRenewal writtenAdoption writtenDeletion writtenInto answerOther answerKey answerTimes answerOf answers onlyAnswer keyless unheard rcodeOf accepted heard readReply
 open-all s = s
 
 -- ── States and replies ──────────────────────────────────────────────────────────────────────────────────────────────

@@ -9,6 +9,7 @@ use Rattle.model.specs.declared.BatchItem.{BatchItem}
 use Rattle.model.specs.Octets.{part, put}
 use Rattle.model.specs.Tables.{Table, tableRules}
 use Rattle.model.specs.Checks.{check}
+use Rattle.model.specs.Judging.{Given}
 use Rattle.model.specs.Calls.{DONE, TABLE, Outcome, Call, message, called}
 
 -- "17 BATCH for more than 64 items or one outside the lent octets".
@@ -22,15 +23,25 @@ inside octets s = leb (s .from + s .size) (length octets)
 
 abbrev pub itemsInside : List ℕ → List BatchItem → Bool
 itemsInside octets [] = true
-itemsInside octets (x ∷ xs) = (inside octets (x .message) && inside octets (x .offer)) && itemsInside octets xs
+itemsInside octets (x ∷ xs) = ((inside octets (x .message) && inside octets (x .offer)) && inside octets (x .second)) && itemsInside octets xs
 
 unfoldable pub batchOk : List ℕ → List BatchItem → Bool
 batchOk octets xs = leb (length xs) 64 && itemsInside octets xs
 
--- "Each with its time, verdict and offer": the message call of an item that is lent so much room.
+-- "Each with its time, verdict and offer", and (CR 10) "each item of a batch brings its own" keying verdict and lent record: the message call of an item that is
+-- lent so much room.
+unfoldable pub givenBy : List ℕ → BatchItem → Given
+givenBy octets x =
+    record {
+      now = x .time;
+      good = x .good;
+      offer = part octets (x .offer .from) (x .offer .size);
+      fits = x .fits;
+      second = part octets (x .second .from) (x .second .size);
+    }
+
 unfoldable pub itemCall : List ℕ → ℕ → BatchItem → Call
-itemCall octets room x =
-    message (x .time) (x .good) (part octets (x .offer .from) (x .offer .size)) room (part octets (x .message .from) (x .message .size))
+itemCall octets room x = message (givenBy octets x) room (part octets (x .message .from) (x .message .size))
 
 -- ── The call ────────────────────────────────────────────────────────────────────────────────────────────────────────
 

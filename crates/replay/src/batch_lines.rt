@@ -61,7 +61,7 @@ pub fn batch_line(
     words: &mut [u64],
     suffixes: &[u8],
     a: Args,
-    items: &[u64; 384],
+    items: &[u64; 576],
     arena: &[u8],
     out: &mut [u8],
     text: &mut [u8],

@@ -39,7 +39,7 @@ fn perform(
     suffixes: &mut [u8],
     r: Run,
     c: Command,
-    items: &[u64; 384],
+    items: &[u64; 576],
     arena: &[u8],
     out: &mut [u8],
     text: &mut [u8],
@@ -92,7 +92,7 @@ fn end_line(
     out: &mut [u8],
     text: &mut [u8],
 ) -> Run {
-    let mut items = [0u64; 384];
+    let mut items = [0u64; 576];
     let c = script::read_line(line, arena, &mut items[..]);
     let d = perform(words, suffixes, r, c, &items, arena, out, text);
     let resolver = d.resolver;

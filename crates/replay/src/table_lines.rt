@@ -2,6 +2,7 @@
 use crate::print;
 use listing::Listed;
 use model::Answer;
+use model::Verdicts;
 use script::Args;
 use script::TableCall;
 
@@ -51,13 +52,18 @@ fn enrol(words: &mut [u64], suffixes: &mut [u8], a: Args, arena: &[u8]) -> Answe
 }
 
 fn message(words: &mut [u64], suffixes: &[u8], a: Args, arena: &[u8], out: &mut [u8]) -> Answer {
+    let verdicts = Verdicts {
+        now: script::number(a, 1),
+        good: script::number(a, 2) == 1,
+        fits: script::number(a, 6) == 1,
+    };
     server::message(
         words,
         suffixes,
-        script::number(a, 1),
-        script::number(a, 2) == 1,
+        verdicts,
         script::octets(a, 5, arena),
         script::octets(a, 3, arena),
+        script::octets(a, 7, arena),
         lent(out, script::number(a, 4)),
     )
 }

@@ -16,7 +16,7 @@ use Rattle.model.specs.Octets.{put}
 use Rattle.model.specs.Names.{readName, keyName}
 use Rattle.model.specs.Messages.{Message}
 use Rattle.model.specs.Judging.{Holder, heldSuffix, heldPair, Given}
-use Rattle.model.specs.Replies.{rcodeReply, tkeyReply, readoptedReply, replyOf}
+use Rattle.model.specs.Replies.{answersOf, rcodeReply, tkeyReply, readoptedReply, replyOf}
 use Rattle.model.specs.Calls.{roomFor}
 use Rattle.compression.specs.declared.Got.{Got}
 use Rattle.compression.specs.declared.Got.the-variants.{Bad, Name}
@@ -33,11 +33,14 @@ use Rattle.tkey.specs.Key.{KeyFits}
 use Rattle.contents.specs.declared.Contents.{Contents}
 use Rattle.contents.specs.Contents.{ContentsRead}
 use Rattle.contents.proofs.Laws.{sized-most}
+use Rattle.model.specs.declared.Scheme.{Scheme}
+use Rattle.records.specs.Record.{cut}
 use Rattle.replies.specs.declared.Fields.{Fields}
+use Rattle.replies.specs.declared.Grant.{Grant}
 use Rattle.replies.specs.declared.Written.{Written}
 use Rattle.replies.specs.declared.Written.the-variants.{Reply, NoRoom}
-use Rattle.replies.specs.Parts.{framed, repeatedOctets, renewedOctets, tkeyOutcome, Replied, FieldsIn, EchoIn, Read}
-use Rattle.replies.specs.Written.{answerOf, otherOf, grantOf, outcomeOf, renewalOctets, NameOut, Answers, writtenBy, DecisionFits, Replies}
+use Rattle.replies.specs.Parts.{framed, repeatedOctets, renewedOctets, grantedOctets, Replied, FieldsIn, EchoIn, Read}
+use Rattle.replies.specs.Written.{answerOf, otherOf, grantOf, outcomeOf, grantBy, renewalFor, renewalOctets, NameOut, Answers, writtenBy, DecisionFits, Replies}
 use Rattle.replies.proofs.Laws.{heading-length, repeated-length, renewed-length, replied-as, replied-room}
 use Rattle.replies.proofs.Joins.{only-tkey, only-key, refused-reply, tkey-reply, readopted-reply, renewed-reply}
 
@@ -65,11 +68,13 @@ module _ (m : List ℕ) (end : ℕ) (h : Read m end) where
   refused-some rcode = rw (heading-length m end rcode 0 0 h) (omega arith)
 
   module _ (t : Fields) (f : FieldsIn m t) (owner key : List ℕ) where
-    pub repeated-some : 0 < length (repeatedOctets m end 0 t owner key)
-    repeated-some = rw (repeated-length m end 0 t owner key h f) (omega arith)
+    pub repeated-some : 0 < length (repeatedOctets m end 1 0 t owner key)
+    repeated-some = rw (repeated-length m end 1 0 t owner key h f) (omega arith)
 
-    pub renewed-some : (e : KeyFields) (subject : List ℕ) → EchoIn m e → 0 < length (renewedOctets m end t owner key e subject)
-    renewed-some e subject i = rw (renewed-length m end t owner key e subject h f i) (omega arith)
+pub renewed-some :
+    (m : List ℕ) (g : Grant) (owner key second subject : List ℕ) → Read m (g .end) → FieldsIn m (g .fields) → EchoIn m (g .echo)
+    → 0 < length (renewedOctets m g owner key second subject)
+renewed-some m g owner key second subject h f e = rw (renewed-length m g owner key second subject h f e) (omega arith)
 
 -- ── The fields ──────────────────────────────────────────────────────────────────────────────────────────────────────
 
@@ -116,19 +121,22 @@ module _ {m : List ℕ} {c : Contents} (x : ContentsRead m c) where
     found : Fits m t
     found = subst (TkeyFits m) is (x .tkey-fits) .1
 
+    pub outcome-key : t .key .from + t .key .size ≤ length m
+    outcome-key = found .key
+
     module _ (error : ℕ) (again : Bool) (other : Span) (eo : other ≡ otherOf t again) (r : Fields) (er : r ≡ answerOf t error other) where
       pub outcome-in : error < 65536 → FieldsIn m r
       outcome-in h = rw (er, eo) (answer-in m t found error again h)
 
       pub outcome-answers :
-          error < 65536 → (owner offer : List ℕ) (e : KeyFields) (subject : List ℕ) {b b′ : List ℕ} {n : ℕ} {w : Written}
+          error < 65536 → (owner key : List ℕ) {b b′ : List ℕ} {n : ℕ} {w : Written}
           → owner ≡ nameStanding m place
-          → Replied (tkeyOutcome (r .granted) m (c .end) r owner offer e subject) b b′ n
+          → key ≡ cut m (t .key)
+          → Replied (repeatedOctets m (c .end) 1 0 r owner key) b b′ n
           → w ≡ writtenBy n
           → Answers (outcomeOf m (c .end) (c .tkey) error again) b b′ w
-      unfolding tkeyOutcome
-      outcome-answers h owner offer e subject named s ew =
-          let o : tkeyOutcome (r .granted) m (c .end) r owner offer e subject ≡ outcomeOf m (c .end) (One place t) error again = rw (er, eo, named) refl in
+      outcome-answers h owner key named ek s ew =
+          let o : repeatedOctets m (c .end) 1 0 r owner key ≡ outcomeOf m (c .end) (One place t) error again = rw (er, eo, named, ek) refl in
           rw is (answers-by ew (replied-as o s) (repeated-some m (c .end) read-so _ (answer-in m t found error again h) _ _))
 
     module _ (at : ℕ) (e : KeyFields) (ik : c .key ≡ OneKey at e) where
@@ -140,27 +148,28 @@ module _ {m : List ℕ} {c : Contents} (x : ContentsRead m c) where
         renewal-in = rw er (grant-in m t found time (time + p .lifetime))
 
         pub renewal-answers :
-            (owner offer subject suffix : List ℕ) {b b′ : List ℕ} {n : ℕ} {w : Written}
+            (scheme : Scheme) (k : ℕ) (owner offer second subject suffix : List ℕ) {b b′ : List ℕ} {n : ℕ} {w : Written}
+            → k ≡ answersOf scheme
             → owner ≡ keyName (p .«next_serial») suffix
             → subject ≡ nameStanding m at
-            → Replied (tkeyOutcome (r .granted) m (c .end) r owner offer e subject) b b′ n
+            → Replied (grantedOctets scheme m (record { end = c .end; answers = k; fields = r; echo = e }) owner offer second subject) b b′ n
             → w ≡ writtenBy n
-            → Answers (renewalOctets m (c .end) (c .tkey) (c .key) offer p suffix time) b b′ w
-        unfolding tkeyOutcome
-        renewal-answers owner offer subject suffix named stands s ew =
-            let o : tkeyOutcome (r .granted) m (c .end) r owner offer e subject ≡ renewalOctets m (c .end) (One place t) (OneKey at e) offer p suffix time = rw (er, named, stands) refl in
-            rw (is, ik) (answers-by ew (replied-as o s) (renewed-some m (c .end) read-so _ (grant-in m t found time (time + p .lifetime)) _ _ e _ echo-in))
+            → Answers (renewalOctets scheme m c offer second p suffix time) b b′ w
+        unfolding grantedOctets
+        renewal-answers scheme k owner offer second subject suffix ek named stands s ew =
+            let o : grantedOctets scheme m (record { end = c .end; answers = k; fields = r; echo = e }) owner offer second subject ≡ renewalFor scheme m (c .end) (One place t) (OneKey at e) offer second p suffix time = rw (er, ek, named, stands) refl in
+            rw (is, ik) (answers-by ew (replied-as o s) (renewed-some m (grantBy scheme (c .end) t e p time) _ _ _ _ read-so (grant-in m t found time (time + p .lifetime)) echo-in))
 
 -- no TKEY, or no KEY: no reply
 module _ (m : List ℕ) (c : Contents) (b : List ℕ) where
   pub no-outcome : (error : ℕ) (again : Bool) → c .tkey ≡ Nothing → Answers (outcomeOf m (c .end) (c .tkey) error again) b b (Reply 0)
   no-outcome error again is = rw is (answers-none b)
 
-  module _ (offer : List ℕ) (p : Pair) (suffix : List ℕ) (time : ℕ) where
-    pub no-renewal : c .tkey ≡ Nothing → Answers (renewalOctets m (c .end) (c .tkey) (c .key) offer p suffix time) b b (Reply 0)
+  module _ (scheme : Scheme) (offer second : List ℕ) (p : Pair) (suffix : List ℕ) (time : ℕ) where
+    pub no-renewal : c .tkey ≡ Nothing → Answers (renewalOctets scheme m c offer second p suffix time) b b (Reply 0)
     no-renewal is = rw is (answers-none b)
 
-    pub no-echo : (place : ℕ) (t : TkeyFields) → c .tkey ≡ One place t → c .key ≡ NoKey → Answers (renewalOctets m (c .end) (c .tkey) (c .key) offer p suffix time) b b (Reply 0)
+    pub no-echo : (place : ℕ) (t : TkeyFields) → c .tkey ≡ One place t → c .key ≡ NoKey → Answers (renewalOctets scheme m c offer second p suffix time) b b (Reply 0)
     no-echo place t is ik = rw (is, ik) (answers-none b)
 
 -- ── What the decision fits ──────────────────────────────────────────────────────────────────────────────────────────
@@ -172,35 +181,35 @@ module _ (d : Decision) (p : Pair) (time : ℕ) (f : DecisionFits d p time) wher
   pub failed-fits : (error : ℕ) → d ≡ Failed error → error < 65536
   failed-fits error is = rw is at f
 
-  pub renews-fits : (a : Algorithm) → d ≡ Renews a → (p .«next_serial» < 2 ^ 32) × (time + p .lifetime < 2 ^ 64)
-  renews-fits a is = rw is at f
+  pub renews-fits : (scheme : Scheme) (a : Algorithm) → d ≡ Renews scheme a → (p .«next_serial» < 2 ^ 32) × (time + p .lifetime < 2 ^ 64)
+  renews-fits scheme a is = rw is at f
 
 -- ── The whole reply ─────────────────────────────────────────────────────────────────────────────────────────────────
 
-module _ {m : List ℕ} {c : Contents} {offer : List ℕ} {p : Pair} {suffix : List ℕ} {time : ℕ} {d : Decision} {b b′ : List ℕ} {w : Written} where
+module _ {m : List ℕ} {c : Contents} {offer second : List ℕ} {p : Pair} {suffix : List ℕ} {time : ℕ} {d : Decision} {b b′ : List ℕ} {w : Written} where
   -- no reply
-  pub none-replies : ((h : Holder) (g : Given) (q : Message) → [] ≡ replyOf h g q d) → Answers [] b b′ w → Replies m c offer p suffix time d b b′ w
-  none-replies is s = record { answers = λ x h g hs hp ht ho. answers-as (is h g (x .message)) s }
+  pub none-replies : ((h : Holder) (g : Given) (q : Message) → [] ≡ replyOf h g q d) → Answers [] b b′ w → Replies m c offer second p suffix time d b b′ w
+  none-replies is s = record { answers = λ x h g hs hp ht ho hz. answers-as (is h g (x .message)) s }
 
   pub refused-replies : (rcode : ℕ) → ((h : Holder) (g : Given) (q : Message) → rcodeReply q rcode ≡ replyOf h g q d)
-      → Answers (rcodeReply (framed m (c .end)) rcode) b b′ w → Replies m c offer p suffix time d b b′ w
-  refused-replies rcode is s = record { answers = λ x h g hs hp ht ho. answers-as (refused-reply x rcode ∙ is h g (x .message)) s }
+      → Answers (rcodeReply (framed m (c .end)) rcode) b b′ w → Replies m c offer second p suffix time d b b′ w
+  refused-replies rcode is s = record { answers = λ x h g hs hp ht ho hz. answers-as (refused-reply x rcode ∙ is h g (x .message)) s }
 
   pub tkey-replies : (error : ℕ) → ((h : Holder) (g : Given) (q : Message) → tkeyReply q error ≡ replyOf h g q d)
-      → Answers (outcomeOf m (c .end) (c .tkey) error false) b b′ w → Replies m c offer p suffix time d b b′ w
-  tkey-replies error is s = record { answers = λ x h g hs hp ht ho. answers-as (tkey-reply x (c .tkey) (only-tkey x) error ∙ is h g (x .message)) s }
+      → Answers (outcomeOf m (c .end) (c .tkey) error false) b b′ w → Replies m c offer second p suffix time d b b′ w
+  tkey-replies error is s = record { answers = λ x h g hs hp ht ho hz. answers-as (tkey-reply x (c .tkey) (only-tkey x) error ∙ is h g (x .message)) s }
 
   pub readopted-replies : ((h : Holder) (g : Given) (q : Message) → readoptedReply q ≡ replyOf h g q d)
-      → Answers (outcomeOf m (c .end) (c .tkey) 0 true) b b′ w → Replies m c offer p suffix time d b b′ w
-  readopted-replies is s = record { answers = λ x h g hs hp ht ho. answers-as (readopted-reply x (c .tkey) (only-tkey x) ∙ is h g (x .message)) s }
+      → Answers (outcomeOf m (c .end) (c .tkey) 0 true) b b′ w → Replies m c offer second p suffix time d b b′ w
+  readopted-replies is s = record { answers = λ x h g hs hp ht ho hz. answers-as (readopted-reply x (c .tkey) (only-tkey x) ∙ is h g (x .message)) s }
 
-  pub renewed-replies : (a : Algorithm) → d ≡ Renews a
-      → Answers (renewalOctets m (c .end) (c .tkey) (c .key) offer p suffix time) b b′ w → Replies m c offer p suffix time d b b′ w
+  pub renewed-replies : (scheme : Scheme) (a : Algorithm) → d ≡ Renews scheme a
+      → Answers (renewalOctets scheme m c offer second p suffix time) b b′ w → Replies m c offer second p suffix time d b b′ w
   unfolding replyOf
-  renewed-replies a is s =
+  renewed-replies scheme a is s =
       record {
-        answers = λ x h g hs hp ht ho.
-            let e : renewalOctets m (c .end) (c .tkey) (c .key) offer p suffix time ≡ renewalOctets m (c .end) (c .tkey) (c .key) (g .offer) (heldPair h) (heldSuffix h) (g .now) =
-            rw (hs, hp, ht, ho) refl in
-            answers-as (e ∙ renewed-reply x (c .tkey) (only-tkey x) (c .key) (only-key x) h g a ∙ rw is refl) s;
+        answers = λ x h g hs hp ht ho hz.
+            let e : renewalOctets scheme m c offer second p suffix time ≡ renewalOctets scheme m c (g .offer) (g .second) (heldPair h) (heldSuffix h) (g .now) =
+            rw (hs, hp, ht, ho, hz) refl in
+            answers-as (e ∙ renewed-reply x (c .tkey) (only-tkey x) (c .key) (only-key x) h g scheme a ∙ rw is refl) s;
       }

@@ -13,10 +13,11 @@ use Rattle.model.specs.Replies.{flags, heading, recordOctets, tkeyData, tkeyRec
 use Rattle.model.specs.Calls.{roomFor}
 use Rattle.octets.specs.Wrote.{Wrote}
 use Rattle.octets.proofs.Laws.{part-length, part-slice, wrote-put}
+use Rattle.model.specs.declared.Span.{Span}
 use Rattle.replies.specs.declared.Fields.{Fields}
-use Rattle.tkey.specs.declared.KeyFields.{KeyFields}
+use Rattle.replies.specs.declared.Grant.{Grant}
 use Rattle.records.specs.Record.{cut}
-use Rattle.replies.specs.Parts.{framed, keyData, tkeyOutcome, headingFront, headingBack, sizedOctets, recordFront, tkeyFront, repeatedOctets, renewedOctets, repeatedSize, renewedSize, Replied, FieldsIn, EchoIn, Read}
+use Rattle.replies.specs.Parts.{framed, keyData, headingFront, headingBack, sizedOctets, recordFront, tkeyFront, repeatedOctets, renewedOctets, repeatedSize, renewedSize, Replied, FieldsIn, EchoIn, Read}
 
 -- two octets as one number
 pub two-octets : (high low : ℕ) → low < 256 → be16 (high * 256 + low) ≡ high ∷ low ∷ []
@@ -44,21 +45,21 @@ module _ (m : List ℕ) where
   unfolding heading flags messageOf be16
   heading-length end rcode answers additionals h = rw (part-length m 12 (end - 12) (omega arith)) (omega arith)
 
-  pub repeated-length : (end additionals : ℕ) (t : Fields) (owner key : List ℕ) → Read m end → FieldsIn m t
-      → length (repeatedOctets m end additionals t owner key) ≡ repeatedSize end (length owner) t (length key)
+  pub repeated-length : (end answers additionals : ℕ) (t : Fields) (owner key : List ℕ) → Read m end → FieldsIn m t
+      → length (repeatedOctets m end answers additionals t owner key) ≡ repeatedSize end (length owner) t (length key)
   unfolding repeatedOctets tkeyRecord recordOctets tkeyData be16 be32
-  repeated-length end additionals t owner key h f =
-      let l₁ = heading-length end 0 1 additionals h in
+  repeated-length end answers additionals t owner key h f =
+      let l₁ = heading-length end 0 answers additionals h in
       let l₂ = part-length m (t .algorithm .from) (t .algorithm .size) (f .algorithm) in
       let l₃ = part-length m (t .other .from) (t .other .size) (f .other) in
       simp (length-append, l₁, l₂, l₃) (omega arith)
 
-  pub renewed-length : (end : ℕ) (t : Fields) (owner key : List ℕ) (e : KeyFields) (subject : List ℕ) → Read m end → FieldsIn m t → EchoIn m e
-      → length (renewedOctets m end t owner key e subject) ≡ renewedSize end (length owner) t (length key) (length subject) e
+  pub renewed-length : (g : Grant) (owner key second subject : List ℕ) → Read m (g .end) → FieldsIn m (g .fields) → EchoIn m (g .echo)
+      → length (renewedOctets m g owner key second subject) ≡ renewedSize g (length owner) (length key) (length second) (length subject)
   unfolding renewedOctets recordOctets be16 be32
-  renewed-length end t owner key e subject h f g =
-      let l₁ = repeated-length end 1 t owner key h f in
-      let l₂ = part-length m (e .content .from) (e .content .size) (g .content) in
+  renewed-length g owner key second subject h f e =
+      let l₁ = repeated-length (g .end) (g .answers) 1 (g .fields) owner key h f in
+      let l₂ = part-length m (g .echo .content .from) (g .echo .content .size) (e .content) in
       simp (length-append, l₁, l₂) (omega arith)
 
 -- ── Room ────────────────────────────────────────────────────────────────────────────────────────────────────────────
@@ -94,22 +95,14 @@ replied-as e w = rw e at w
 
 -- ── Key data ────────────────────────────────────────────────────────────────────────────────────────────────────────
 
-module _ (g : Bool) (m : List ℕ) (t : Fields) (offer k : List ℕ) (is : k ≡ keyData g m (t .key .from) (t .key .from + t .key .size) offer) where
-  pub key-granted : g ≡ true → k ≡ offer
-  key-granted h = is ∙ rw h refl
+pub key-part : (m : List ℕ) (p : Span) (offer : List ℕ) → keyData false m (p .from) (p .from + p .size) offer ≡ cut m p
+key-part m p offer = part-slice m (p .from) (p .size)
 
-  pub key-asked : g ≡ false → k ≡ cut m (t .key)
-  key-asked h = is ∙ rw h (part-slice m (t .key .from) (t .key .size))
-
-  pub outcome-granted : (end : ℕ) (owner : List ℕ) (e : KeyFields) (subject : List ℕ) → g ≡ true
-      → renewedOctets m end t owner k e subject ≡ tkeyOutcome g m end t owner offer e subject
-  unfolding tkeyOutcome
-  outcome-granted end owner e subject h = ap (λ (x : List ℕ). renewedOctets m end t owner x e subject) (key-granted h) ∙ rw h refl
-
-  pub outcome-repeated : (end : ℕ) (owner : List ℕ) (e : KeyFields) (subject : List ℕ) → g ≡ false
-      → repeatedOctets m end 0 t owner k ≡ tkeyOutcome g m end t owner offer e subject
-  unfolding tkeyOutcome
-  outcome-repeated end owner e subject h = ap (λ (x : List ℕ). repeatedOctets m end 0 t owner x) (key-asked h) ∙ rw h refl
+-- either has a length that fits
+pub key-short : (b : Bool) (m : List ℕ) (p : Span) (offer : List ℕ) → length m < 65536 → p .from + p .size ≤ length m → length offer < 65536
+    → length (keyData b m (p .from) (p .from + p .size) offer) < 65536
+key-short true m p offer h w o = o
+key-short false m p offer h w o = rw (key-part m p offer) (rw (part-length m (p .from) (p .size) w) (omega arith))
 
 -- ── What the caller learns from the number ──────────────────────────────────────────────────────────────────────────
 

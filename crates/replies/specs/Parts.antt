@@ -6,10 +6,13 @@ use mathlib.Core.List.{List, [], _∷_, _++_}
 use lib.ListN.{length, take, drop}
 use Rattle.model.specs.Octets.{be16, be32, put, part, u16At}
 use Rattle.model.specs.Messages.{Message, messageOf, opcodeOf, desiredOf}
-use Rattle.model.specs.Replies.{heading, recordOctets, tkeyData, tkeyRecord}
+use Rattle.model.specs.declared.Scheme.{Scheme}
+use Rattle.model.specs.declared.Scheme.the-variants.{DiffieHellman, ServerAssignment, ResolverAssignment}
+use Rattle.model.specs.Replies.{heading, recordOctets, tkeyData, tkeyRecord, behind}
 use Rattle.model.specs.Calls.{roomFor}
 use Rattle.records.specs.Record.{cut, Within}
 use Rattle.replies.specs.declared.Fields.{Fields}
+use Rattle.replies.specs.declared.Grant.{Grant}
 use Rattle.tkey.specs.declared.KeyFields.{KeyFields}
 
 -- The message, of which no more is read than its header and its question section, which ends at `end`.
@@ -43,30 +46,35 @@ dataOf m t key = tkeyData (cut m (t .algorithm)) (t .inception) (t .expiration) 
 abbrev pub echoOf : List ℕ → List ℕ → KeyFields → List ℕ
 echoOf m owner e = recordOctets owner (e .kind) (e .class) (e .ttl) (cut m (e .content))
 
--- The key data: the offer where a renewal is granted, else that part of the request.
+-- The key data: the offer, or that part of the request.
 abbrev pub keyData : Bool → List ℕ → ℕ → ℕ → List ℕ → List ℕ
 keyData true request from to offer = offer
 keyData false request from to offer = take (to - from) (drop from request)
 
 -- Header, questions and the TKEY that answers, with this key data.
-unfoldable pub repeatedOctets : List ℕ → ℕ → ℕ → Fields → List ℕ → List ℕ → List ℕ
-repeatedOctets m end additionals t owner key = heading (framed m end) 0 1 additionals ++ tkeyRecord owner (dataOf m t key)
+unfoldable pub repeatedOctets : List ℕ → ℕ → ℕ → ℕ → Fields → List ℕ → List ℕ → List ℕ
+repeatedOctets m end answers additionals t owner key = heading (framed m end) 0 answers additionals ++ tkeyRecord owner (dataOf m t key)
 
--- The same and the echo.
-unfoldable pub renewedOctets : List ℕ → ℕ → Fields → List ℕ → List ℕ → KeyFields → List ℕ → List ℕ
-renewedOctets m end t owner key e subject = repeatedOctets m end 1 t owner key ++ echoOf m subject e
+-- The same, the lent record and the echo.
+unfoldable pub renewedOctets : List ℕ → Grant → List ℕ → List ℕ → List ℕ → List ℕ → List ℕ
+renewedOctets m g owner key second subject = repeatedOctets m (g .end) (g .answers) 1 (g .fields) owner key ++ (second ++ echoOf m subject (g .echo))
 
--- The reply of a TKEY outcome: granted, with the offer and the echo; or the request's TKEY repeated.
-unfoldable pub tkeyOutcome : Bool → List ℕ → ℕ → Fields → List ℕ → List ℕ → KeyFields → List ℕ → List ℕ
-tkeyOutcome true m end t owner offer e subject = renewedOctets m end t owner offer e subject
-tkeyOutcome false m end t owner offer e subject = repeatedOctets m end 0 t owner (cut m (t .key))
+-- A granted renewal by its scheme: whose key data it hands out, and whether the lent record stands there.
+unfoldable pub takesOffer : Scheme → Bool
+takesOffer DiffieHellman = true
+takesOffer ServerAssignment = true
+takesOffer ResolverAssignment = false
+
+unfoldable pub grantedOctets : Scheme → List ℕ → Grant → List ℕ → List ℕ → List ℕ → List ℕ → List ℕ
+grantedOctets scheme m g owner offer second subject =
+    renewedOctets m g owner (keyData (takesOffer scheme) m (g .fields .key .from) (g .fields .key .from + g .fields .key .size) offer) (behind scheme second) subject
 
 -- Their lengths, from numbers: the lengths of the owner names and of the key data among them.
 abbrev pub repeatedSize : ℕ → ℕ → Fields → ℕ → ℕ
 repeatedSize end owner t key = end + owner + 10 + (t .algorithm .size + 16 + key + t .other .size)
 
-abbrev pub renewedSize : ℕ → ℕ → Fields → ℕ → ℕ → KeyFields → ℕ
-renewedSize end owner t key subject e = repeatedSize end owner t key + subject + 10 + e .content .size
+abbrev pub renewedSize : Grant → ℕ → ℕ → ℕ → ℕ → ℕ
+renewedSize g owner key second subject = repeatedSize (g .end) owner (g .fields) key + second + subject + 10 + g .echo .content .size
 
 -- What the writer of a reply leaves: the reply in the first octets and its length; or, where there is no room for it, nothing and 0.
 pub record Replied (reply entry exit : List ℕ) (r : ℕ) : Type 0 where

@@ -12,11 +12,13 @@ use Rattle.model.specs.declared.Decision.the-variants.{Unsigned, Refused, Passe
 use Rattle.model.specs.Octets.{put}
 use Rattle.model.specs.Names.{keyName}
 use Rattle.model.specs.Judging.{Holder, heldSuffix, heldPair, Given}
-use Rattle.model.specs.Replies.{replyOf}
+use Rattle.model.specs.declared.Scheme.{Scheme}
+use Rattle.model.specs.Replies.{answersOf, replyOf}
 use Rattle.model.specs.Calls.{roomFor}
 use Rattle.matching.specs.Compare.{nameStanding}
 use Rattle.records.specs.Record.{cut}
 use Rattle.tkey.specs.declared.TkeyFields.{TkeyFields}
+use Rattle.tkey.specs.declared.KeyFields.{KeyFields}
 use Rattle.tkey.specs.declared.OnlyTkey.{OnlyTkey}
 use Rattle.tkey.specs.declared.OnlyTkey.the-variants.{Nothing, One}
 use Rattle.tkey.specs.declared.OnlyKey.{OnlyKey}
@@ -24,14 +26,15 @@ use Rattle.tkey.specs.declared.OnlyKey.the-variants.{Nothing as NoKey, One as O
 use Rattle.contents.specs.declared.Contents.{Contents}
 use Rattle.contents.specs.Contents.{ContentsRead}
 use Rattle.replies.specs.declared.Fields.{Fields as AnswerFields}
+use Rattle.replies.specs.declared.Grant.{Grant}
 use Rattle.replies.specs.declared.Written.{Written}
 use Rattle.replies.specs.declared.Written.the-variants.{Reply, NoRoom}
-use Rattle.replies.specs.Parts.{repeatedOctets, renewedOctets}
+use Rattle.replies.specs.Parts.{repeatedOctets, grantedOctets}
 
 -- The TKEY that answers the request's: with this error number and this other data; or with the new key's times.
 abbrev pub answerOf : TkeyFields → ℕ → Span → AnswerFields
 answerOf t error other =
-    record { granted = false; algorithm = t .algorithm; inception = t .inception; expiration = t .expiration; mode = t .mode; error = error; key = t .key; other = other }
+    record { algorithm = t .algorithm; inception = t .inception; expiration = t .expiration; mode = t .mode; error = error; key = t .key; other = other }
 
 abbrev pub otherOf : TkeyFields → Bool → Span
 otherOf t true = record { from = 0; size = 0 }
@@ -39,18 +42,24 @@ otherOf t false = t .other
 
 abbrev pub grantOf : TkeyFields → ℕ → ℕ → AnswerFields
 grantOf t time expiry =
-    record { granted = true; algorithm = t .algorithm; inception = time % 4294967296; expiration = expiry % 4294967296; mode = t .mode; error = 0; key = t .key; other = t .other }
+    record { algorithm = t .algorithm; inception = time % 4294967296; expiration = expiry % 4294967296; mode = t .mode; error = 0; key = t .key; other = t .other }
 
 -- The reply of a TKEY outcome that grants no key, and of a granted renewal, by the only TKEY and the only KEY.
 abbrev pub outcomeOf : List ℕ → ℕ → OnlyTkey → ℕ → Bool → List ℕ
 outcomeOf m end Nothing error again = []
-outcomeOf m end (One place t) error again = repeatedOctets m end 0 (answerOf t error (otherOf t again)) (nameStanding m place) (cut m (t .key))
+outcomeOf m end (One place t) error again = repeatedOctets m end 1 0 (answerOf t error (otherOf t again)) (nameStanding m place) (cut m (t .key))
 
-abbrev pub renewalOctets : List ℕ → ℕ → OnlyTkey → OnlyKey → List ℕ → Pair → List ℕ → ℕ → List ℕ
-renewalOctets m end Nothing key offer p suffix time = []
-renewalOctets m end (One place t) NoKey offer p suffix time = []
-renewalOctets m end (One place t) (OneKey at e) offer p suffix time =
-    renewedOctets m end (grantOf t time (time + p .lifetime)) (keyName (p .«next_serial») suffix) offer e (nameStanding m at)
+abbrev pub grantBy : Scheme → ℕ → TkeyFields → KeyFields → Pair → ℕ → Grant
+grantBy scheme end t e p time = record { end = end; answers = answersOf scheme; fields = grantOf t time (time + p .lifetime); echo = e }
+
+abbrev pub renewalFor : Scheme → List ℕ → ℕ → OnlyTkey → OnlyKey → List ℕ → List ℕ → Pair → List ℕ → ℕ → List ℕ
+renewalFor scheme m end Nothing key offer second p suffix time = []
+renewalFor scheme m end (One place t) NoKey offer second p suffix time = []
+renewalFor scheme m end (One place t) (OneKey at e) offer second p suffix time =
+    grantedOctets scheme m (grantBy scheme end t e p time) (keyName (p .«next_serial») suffix) offer second (nameStanding m at)
+
+abbrev pub renewalOctets : Scheme → List ℕ → Contents → List ℕ → List ℕ → Pair → List ℕ → ℕ → List ℕ
+renewalOctets scheme m c offer second p suffix time = renewalFor scheme m (c .end) (c .tkey) (c .key) offer second p suffix time
 
 -- The name at a place of the message m is written out: it is the first n octets of `out`.
 pub record NameOut (m : List ℕ) (place : ℕ) (out : List ℕ) (n : ℕ) : Type 0 where
@@ -75,7 +84,7 @@ DecisionFits Unsigned p time = Unit {0}
 DecisionFits (Refused rcode error) p time = rcode < 256
 DecisionFits (Passed skew) p time = Unit {0}
 DecisionFits (Failed error) p time = error < 65536
-DecisionFits (Renews g) p time = (p .«next_serial» < 2 ^ 32) × (time + p .lifetime < 2 ^ 64)
+DecisionFits (Renews scheme g) p time = (p .«next_serial» < 2 ^ 32) × (time + p .lifetime < 2 ^ 64)
 DecisionFits Adopts p time = Unit {0}
 DecisionFits Readopts p time = Unit {0}
 DecisionFits Deletes p time = Unit {0}
@@ -83,11 +92,12 @@ DecisionFits Withdraws p time = Unit {0}
 
 -- The answer and the buffer are those of model's reply to the message that was read, whatever holder and call these are the readings of.
 pub record Replies
-    (m : List ℕ) (c : Contents) (offer : List ℕ) (p : Pair) (suffix : List ℕ) (time : ℕ) (d : Decision) (entry exit : List ℕ) (w : Written) : Type 0 where
+    (m : List ℕ) (c : Contents) (offer second : List ℕ) (p : Pair) (suffix : List ℕ) (time : ℕ) (d : Decision) (entry exit : List ℕ) (w : Written) : Type 0 where
   pub answers :
       (x : ContentsRead m c) (h : Holder) (g : Given)
       → heldSuffix h ≡ suffix
       → heldPair h ≡ p
       → g .now ≡ time
       → g .offer ≡ offer
+      → g .second ≡ second
       → Answers (replyOf h g (x .message) d) entry exit w

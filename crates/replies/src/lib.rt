@@ -3,6 +3,7 @@ use compression::Got;
 use contents::Contents;
 use model::Decision;
 use model::Pair;
+use model::Scheme;
 use model::Span;
 use tkey::KeyFields;
 use tkey::OnlyKey;
@@ -14,16 +15,15 @@ ghost use Prim.Native.Nat.{_+_, _-_, _*_, _^_, _≤_, _<_};
 ghost use lib.ListN.{length};
 ghost use Rattle.model.specs.Octets.{be16};
 ghost use Rattle.model.specs.Messages.{opcodeOf, desiredOf};
-ghost use Rattle.model.specs.Replies.{heading, tkeyRecord, rcodeReply};
+ghost use Rattle.model.specs.Replies.{heading, tkeyRecord, lends, answersOf, behind, rcodeReply};
 ghost use Rattle.octets.specs.Wrote.{Wrote};
 ghost use Rattle.records.specs.Record.{cut, Within};
 ghost use Rattle.contents.specs.Contents.{ContentsRead};
-ghost use Rattle.replies.specs.Parts.{headingFront, headingBack, framed, sizedOctets, recordFront, tkeyFront, dataOf, echoOf, keyData, repeatedOctets, renewedOctets, tkeyOutcome, repeatedSize, renewedSize, Replied, FieldsIn, EchoIn, Read};
+ghost use Rattle.replies.specs.Parts.{headingFront, headingBack, framed, sizedOctets, recordFront, tkeyFront, dataOf, echoOf, keyData, repeatedOctets, renewedOctets, takesOffer, grantedOctets, repeatedSize, renewedSize, Replied, FieldsIn, EchoIn, Read};
 ghost use Rattle.replies.specs.Written.{answerOf, otherOf, grantOf, outcomeOf, renewalOctets, NameOut, Answers, writtenBy, DecisionFits, Replies};
 
-// The TKEY that answers: whether it grants a key, parts of the request, and numbers.
+// The TKEY that answers: parts of the request, and numbers.
 struct Fields {
-    pub granted: bool,
     pub algorithm: Span,
     pub inception: usize,
     pub expiration: usize,
@@ -31,6 +31,20 @@ struct Fields {
     pub error: usize,
     pub key: Span,
     pub other: Span,
+}
+
+// The answer to a granted renewal but for its names and its key data: where the questions end, how many answers it has, the TKEY, and the KEY that is echoed.
+struct Grant {
+    pub end: usize,
+    pub answers: usize,
+    pub fields: Fields,
+    pub echo: KeyFields,
+}
+
+// What is new in a granted renewal: the pair as it is, and the time.
+pub struct Moment {
+    pub pair: Pair,
+    pub time: u64,
 }
 
 // QR 1, opcode and RD as asked, other flags 0, and the RCODE.
@@ -180,18 +194,18 @@ fn echo_record(buf: &mut [u8], at: usize, owner: &[u8], m: &[u8], e: KeyFields) 
     octets::part_into(buf, a, m, p.from, p.size)
 }
 
-// The key data of the answer: a part of one of two lent slices.
+// The key data of the answer: the offer, or a part of the request.
 fn key_data<'a>(
-    granted: bool,
+    offered: bool,
     request: &'a [u8],
     from: usize,
     to: usize,
     offer: &'a [u8],
 ) -> &'a [u8]
     requires { ⌜ (from ≤ to) × (to ≤ length (now request)) ⌝ }
-    ensures { λ r. ⌜ now r ≡ keyData granted (now (request .entry)) from to (now (offer .entry)) ⌝ }
+    ensures { λ r. ⌜ now r ≡ keyData offered (now (request .entry)) from to (now (offer .entry)) ⌝ }
 {
-    if granted { offer } else { &request[from..to] }
+    if offered { offer } else { &request[from..to] }
 }
 
 // The length of the reply to a TKEY request that is not granted a key, from numbers.
@@ -202,59 +216,56 @@ fn repeated_size(end: usize, owner: usize, t: Fields, key: usize) -> usize
     end + owner + 10 + tkey_size(t, key)
 }
 
-// The same where a key is granted: the echo comes with it.
-fn renewed_size(
-    end: usize,
-    owner: usize,
-    t: Fields,
-    key: usize,
-    subject: usize,
-    e: KeyFields,
-) -> usize
-    requires { ⌜ (end < 65536) × (owner < 65536) × (key < 65536) × (t .algorithm .size < 65536) × (t .other .size < 65536)
-        × (subject < 65536) × (e .content .size < 65536) ⌝ }
-    ensures { λ r. ⌜ r ≡ renewedSize end owner t key subject e ⌝ }
+// The same where a key is granted: the lent record and the echo come with it.
+fn renewed_size(g: Grant, owner: usize, key: usize, second: usize, subject: usize) -> usize
+    requires { ⌜ (g .end < 65536) × (owner < 65536) × (key < 65536) × (g .fields .algorithm .size < 65536) × (g .fields .other .size < 65536)
+        × (second < 65536) × (subject < 65536) × (g .echo .content .size < 65536) ⌝ }
+    ensures { λ r. ⌜ r ≡ renewedSize g owner key second subject ⌝ }
 {
-    repeated_size(end, owner, t, key) + subject + 10 + e.content.size
+    let t = g.fields;
+    repeated_size(g.end, owner, t, key) + second + subject + 10 + g.echo.content.size
 }
 
 fn repeated_into(
     buf: &mut [u8],
     m: &[u8],
     end: usize,
+    answers: usize,
     additionals: usize,
     t: Fields,
     owner: &[u8],
     key: &[u8],
 ) -> usize
-    requires { ⌜ Read (now m) end × FieldsIn (now m) t × (additionals < 65536)
+    requires { ⌜ Read (now m) end × FieldsIn (now m) t × (answers < 65536) × (additionals < 65536)
         × (repeatedSize end (length (now owner)) t (length (now key)) ≤ 65535)
         × (repeatedSize end (length (now owner)) t (length (now key)) ≤ length (now buf)) ⌝ }
     ensures { λ r. ⌜ (r ≡ repeatedSize end (length (now (owner .entry))) t (length (now (key .entry))))
-        × Wrote (repeatedOctets (now (m .entry)) end additionals t (now (owner .entry)) (now (key .entry))) 0 (now (buf .entry)) (now (buf .exit)) r ⌝ }
+        × Wrote (repeatedOctets (now (m .entry)) end answers additionals t (now (owner .entry)) (now (key .entry))) 0 (now (buf .entry)) (now (buf .exit)) r ⌝ }
 {
-    let a = head(buf, m, end, 0, 1, additionals);
+    let a = head(buf, m, end, 0, answers, additionals);
     tkey_record(buf, a, owner, m, t, key)
 }
 
 fn renewed_into(
     buf: &mut [u8],
     m: &[u8],
-    end: usize,
-    t: Fields,
+    g: Grant,
     owner: &[u8],
     key: &[u8],
-    e: KeyFields,
+    second: &[u8],
     subject: &[u8],
 ) -> usize
-    requires { ⌜ Read (now m) end × FieldsIn (now m) t × EchoIn (now m) e
-        × (renewedSize end (length (now owner)) t (length (now key)) (length (now subject)) e ≤ 65535)
-        × (renewedSize end (length (now owner)) t (length (now key)) (length (now subject)) e ≤ length (now buf)) ⌝ }
+    requires { ⌜ Read (now m) (g .end) × FieldsIn (now m) (g .fields) × EchoIn (now m) (g .echo) × (g .answers < 65536)
+        × (renewedSize g (length (now owner)) (length (now key)) (length (now second)) (length (now subject)) ≤ 65535)
+        × (renewedSize g (length (now owner)) (length (now key)) (length (now second)) (length (now subject)) ≤ length (now buf)) ⌝ }
     ensures { λ r. ⌜ (r ≤ 65535)
-        × Wrote (renewedOctets (now (m .entry)) end t (now (owner .entry)) (now (key .entry)) e (now (subject .entry))) 0 (now (buf .entry)) (now (buf .exit)) r ⌝ }
+        × Wrote (renewedOctets (now (m .entry)) g (now (owner .entry)) (now (key .entry)) (now (second .entry)) (now (subject .entry))) 0 (now (buf .entry)) (now (buf .exit)) r ⌝ }
 {
-    let a = repeated_into(buf, m, end, 1, t, owner, key);
-    echo_record(buf, a, subject, m, e)
+    let t = g.fields;
+    let e = g.echo;
+    let a = repeated_into(buf, m, g.end, g.answers, 1, t, owner, key);
+    let b = octets::all_into(buf, a, second);
+    echo_record(buf, b, subject, m, e)
 }
 
 // RCODE alone (01, "The reply"): no record. 0 where there is no room.
@@ -270,7 +281,7 @@ fn rcode_reply(buf: &mut [u8], m: &[u8], end: usize, rcode: usize) -> usize
 
 fn repeated(buf: &mut [u8], m: &[u8], end: usize, t: Fields, owner: &[u8], key: &[u8]) -> usize
     requires { ⌜ Read (now m) end × FieldsIn (now m) t × (length (now owner) < 65536) × (length (now key) < 65536) ⌝ }
-    ensures { λ r. ⌜ Replied (repeatedOctets (now (m .entry)) end 0 t (now (owner .entry)) (now (key .entry))) (now (buf .entry)) (now (buf .exit)) r ⌝ }
+    ensures { λ r. ⌜ Replied (repeatedOctets (now (m .entry)) end 1 0 t (now (owner .entry)) (now (key .entry))) (now (buf .entry)) (now (buf .exit)) r ⌝ }
 {
     let n = repeated_size(end, owner.len(), t, key.len());
     if 65535 < n {
@@ -279,56 +290,97 @@ fn repeated(buf: &mut [u8], m: &[u8], end: usize, t: Fields, owner: &[u8], key: 
     if buf.len() < n {
         return 0;
     }
-    repeated_into(buf, m, end, 0, t, owner, key)
+    repeated_into(buf, m, end, 1, 0, t, owner, key)
 }
 
 fn renewed(
     buf: &mut [u8],
     m: &[u8],
-    end: usize,
-    t: Fields,
+    g: Grant,
     owner: &[u8],
     key: &[u8],
-    e: KeyFields,
+    second: &[u8],
     subject: &[u8],
 ) -> usize
-    requires { ⌜ Read (now m) end × FieldsIn (now m) t × EchoIn (now m) e
+    requires { ⌜ Read (now m) (g .end) × FieldsIn (now m) (g .fields) × EchoIn (now m) (g .echo) × (g .answers < 65536)
         × (length (now owner) < 65536) × (length (now key) < 65536) × (length (now subject) < 65536) ⌝ }
-    ensures { λ r. ⌜ Replied (renewedOctets (now (m .entry)) end t (now (owner .entry)) (now (key .entry)) e (now (subject .entry))) (now (buf .entry)) (now (buf .exit)) r ⌝ }
+    ensures { λ r. ⌜ Replied (renewedOctets (now (m .entry)) g (now (owner .entry)) (now (key .entry)) (now (second .entry)) (now (subject .entry))) (now (buf .entry)) (now (buf .exit)) r ⌝ }
 {
-    let n = renewed_size(end, owner.len(), t, key.len(), subject.len(), e);
+    if 65535 < second.len() {
+        return 0;
+    }
+    let n = renewed_size(g, owner.len(), key.len(), second.len(), subject.len());
     if 65535 < n {
         return 0;
     }
     if buf.len() < n {
         return 0;
     }
-    renewed_into(buf, m, end, t, owner, key, e, subject)
+    renewed_into(buf, m, g, owner, key, second, subject)
 }
 
-// The reply of a TKEY outcome: owner is the answer's NAME; where a renewal is granted, subject is the echoed KEY's. 0 where there is no room.
-fn tkey_reply<'a>(
+// ── The schemes of a renewal (02, CR 10) ────────────────────────────────────────────────────────────────────────────
+
+// Whether the key data handed out is the offer; else it is the request's.
+fn takes_offer(scheme: Scheme) -> bool
+    ensures { λ r. ⌜ r ≡ takesOffer scheme ⌝ }
+{
+    match scheme {
+        Scheme::DiffieHellman => true,
+        Scheme::ServerAssignment => true,
+        Scheme::ResolverAssignment => false,
+    }
+}
+
+// Whether the lent record stands behind the TKEY.
+pub fn lends_record(scheme: Scheme) -> bool
+    ensures { λ r. ⌜ r ≡ lends scheme ⌝ }
+{
+    match scheme {
+        Scheme::DiffieHellman => true,
+        Scheme::ServerAssignment => false,
+        Scheme::ResolverAssignment => false,
+    }
+}
+
+// How many answers there are.
+fn answer_count(scheme: Scheme) -> usize
+    ensures { λ r. ⌜ (r ≡ answersOf scheme) × (r < 65536) ⌝ }
+{
+    if lends_record(scheme) { 2 } else { 1 }
+}
+
+// What stands behind the TKEY: the lent record, or nothing.
+fn behind_tkey(scheme: Scheme, second: &[u8]) -> &[u8]
+    ensures { λ r. ⌜ now r ≡ behind scheme (now (second .entry)) ⌝ }
+{
+    if lends_record(scheme) {
+        second
+    } else {
+        &second[..0]
+    }
+}
+
+// The reply to a granted renewal, whose NAME is `owner`; `subject` is the echoed KEY's. 0 where there is no room.
+fn grant_reply<'a>(
     buf: &mut [u8],
     m: &'a [u8],
-    end: usize,
-    t: Fields,
+    g: Grant,
+    scheme: Scheme,
     owner: &[u8],
     offer: &'a [u8],
-    e: KeyFields,
+    second: &[u8],
     subject: &[u8],
 ) -> usize
-    requires { ⌜ Read (now m) end × FieldsIn (now m) t × EchoIn (now m) e
+    requires { ⌜ Read (now m) (g .end) × FieldsIn (now m) (g .fields) × EchoIn (now m) (g .echo) × (g .answers < 65536)
         × (length (now owner) < 65536) × (length (now offer) < 65536) × (length (now subject) < 65536) ⌝ }
-    ensures { λ r. ⌜ Replied (tkeyOutcome (t .granted) (now (m .entry)) end t (now (owner .entry)) (now (offer .entry)) e (now (subject .entry))) (now (buf .entry)) (now (buf .exit)) r ⌝ }
+    ensures { λ r. ⌜ Replied (grantedOctets scheme (now (m .entry)) g (now (owner .entry)) (now (offer .entry)) (now (second .entry)) (now (subject .entry))) (now (buf .entry)) (now (buf .exit)) r ⌝ }
 {
-    let from = t.key.from;
-    let to = from + t.key.size;
-    let key = key_data(t.granted, m, from, to, offer);
-    if t.granted {
-        renewed(buf, m, end, t, owner, key, e, subject)
-    } else {
-        repeated(buf, m, end, t, owner, key)
-    }
+    let from = g.fields.key.from;
+    let to = from + g.fields.key.size;
+    let key = key_data(takes_offer(scheme), m, from, to, offer);
+    let behind = behind_tkey(scheme, second);
+    renewed(buf, m, g, owner, key, behind, subject)
 }
 
 // What the writer of a reply answers: how many octets it has, 0 where there is none; or that there is no room for it.
@@ -373,7 +425,6 @@ fn answering(t: TkeyFields, error: usize, other: Span) -> Fields
     let algorithm = t.algorithm;
     let key = t.key;
     Fields {
-        granted: false,
         algorithm,
         inception: t.inception,
         expiration: t.expiration,
@@ -410,14 +461,8 @@ fn outcome(buf: &mut [u8], m: &[u8], c: Contents, error: usize, again: bool) -> 
             let owner = &all[0..n];
             let other = other_data(fields, again);
             let t = answering(fields, error, other);
-            let none = KeyFields {
-                section: 0,
-                kind: 0,
-                class: 0,
-                ttl: 0,
-                content: Span { from: 0, size: 0 },
-            };
-            by_length(tkey_reply(buf, m, c.end, t, owner, m, none, owner))
+            let key = records::part_of(m, fields.key);
+            by_length(repeated(buf, m, c.end, t, owner, key))
         }
     }
 }
@@ -430,7 +475,6 @@ fn granting(t: TkeyFields, time: u64, expiry: u64) -> Fields
     let key = t.key;
     let other = t.other;
     Fields {
-        granted: true,
         algorithm,
         inception: (time % 4294967296) as usize,
         expiration: (expiry % 4294967296) as usize,
@@ -441,19 +485,20 @@ fn granting(t: TkeyFields, time: u64, expiry: u64) -> Fields
     }
 }
 
-// The reply to a granted renewal: the new key's name, its times, the offer, and the echo.
+// The reply to a granted renewal: the new key's name, its times, the key data, the lent record, and the echo.
 fn renewal<'a>(
     buf: &mut [u8],
     m: &'a [u8],
     c: Contents,
+    scheme: Scheme,
     offer: &'a [u8],
-    pair: Pair,
+    second: &[u8],
     suffix: &[u8],
-    time: u64,
+    at: Moment,
 ) -> Written
-    requires { ⌜ ContentsRead (now m) c × (pair .«next_serial» < 2 ^ 32) × (time + pair .lifetime < 2 ^ 64)
+    requires { ⌜ ContentsRead (now m) c × (at .pair .«next_serial» < 2 ^ 32) × (at .time + at .pair .lifetime < 2 ^ 64)
         × (length (now suffix) ≤ 128) × (length (now offer) ≤ 1024) ⌝ }
-    ensures { λ r. ⌜ Answers (renewalOctets (now (m .entry)) (c .end) (c .tkey) (c .key) (now (offer .entry)) pair (now (suffix .entry)) time) (now (buf .entry)) (now (buf .exit)) r ⌝ }
+    ensures { λ r. ⌜ Answers (renewalOctets scheme (now (m .entry)) c (now (offer .entry)) (now (second .entry)) (at .pair) (now (suffix .entry)) (at .time)) (now (buf .entry)) (now (buf .exit)) r ⌝ }
 {
     let only = c.tkey;
     let one = c.key;
@@ -461,15 +506,24 @@ fn renewal<'a>(
         OnlyTkey::Nothing => Written::Reply(0),
         OnlyTkey::One { place: _, fields } => match one {
             OnlyKey::Nothing => Written::Reply(0),
-            OnlyKey::One { place, fields: e } => {
+            OnlyKey::One {
+                place,
+                fields: echo,
+            } => {
                 let mut name = [0u8; 255];
                 let mut subject = [0u8; 255];
-                let k = names::key_name(&mut name, pair.next_serial, suffix);
+                let k = names::key_name(&mut name, at.pair.next_serial, suffix);
                 let n = name_at(m, &mut subject, place);
                 let all = &name[..];
                 let echoed = &subject[..];
-                let t = granting(fields, time, time + pair.lifetime);
-                by_length(tkey_reply(buf, m, c.end, t, &all[0..k], offer, e, &echoed[0..n]))
+                let t = granting(fields, at.time, at.time + at.pair.lifetime);
+                let g = Grant {
+                    end: c.end,
+                    answers: answer_count(scheme),
+                    fields: t,
+                    echo,
+                };
+                by_length(grant_reply(buf, m, g, scheme, &all[0..k], offer, second, &echoed[0..n]))
             }
         },
     }
@@ -482,19 +536,19 @@ pub fn reply<'a>(
     c: Contents,
     d: Decision,
     offer: &'a [u8],
-    pair: Pair,
+    second: &[u8],
     suffix: &[u8],
-    time: u64,
+    at: Moment,
 ) -> Written
-    requires { ⌜ ContentsRead (now m) c × DecisionFits d pair time × (length (now suffix) ≤ 128) × (length (now offer) ≤ 1024) ⌝ }
-    ensures { λ r. ⌜ Replies (now (m .entry)) c (now (offer .entry)) pair (now (suffix .entry)) time d (now (buf .entry)) (now (buf .exit)) r ⌝ }
+    requires { ⌜ ContentsRead (now m) c × DecisionFits d (at .pair) (at .time) × (length (now suffix) ≤ 128) × (length (now offer) ≤ 1024) ⌝ }
+    ensures { λ r. ⌜ Replies (now (m .entry)) c (now (offer .entry)) (now (second .entry)) (at .pair) (now (suffix .entry)) (at .time) d (now (buf .entry)) (now (buf .exit)) r ⌝ }
 {
     match d {
         Decision::Unsigned => Written::Reply(0),
         Decision::Refused { rcode, error: _ } => refused(buf, m, c.end, rcode as usize),
         Decision::Passed { skew: _ } => Written::Reply(0),
         Decision::Failed { error } => outcome(buf, m, c, error as usize, false),
-        Decision::Renews(_) => renewal(buf, m, c, offer, pair, suffix, time),
+        Decision::Renews(scheme, _) => renewal(buf, m, c, scheme, offer, second, suffix, at),
         Decision::Adopts => outcome(buf, m, c, 0, false),
         Decision::Readopts => outcome(buf, m, c, 0, true),
         Decision::Deletes => outcome(buf, m, c, 0, false),

@@ -1,5 +1,4 @@
--- The pieces of a request, joined as the code writes them, are model's; their lengths; and the test of a KEY record, by what was read of its owner name.
--- Assumes nothing.
+-- The pieces of a request, joined as the code writes them, are model's; and their lengths. Assumes nothing.
 use Prim.Native.Nat.{ℕ, _+_, _-_, _≤_, _<_}
 use mathlib.Core.Path.{_≡_, refl, sym, _∙_}
 use mathlib.Core.Bool.{Bool, true, false, and-false}
@@ -15,10 +14,7 @@ use Rattle.model.specs.Names.{readPlain, algorithmName}
 use Rattle.model.specs.Tkey.{tkeyType, keyType}
 use Rattle.model.specs.Tsig.{anyClass}
 use Rattle.model.specs.Replies.{recordOctets, tkeyData, tkeyRecord}
-use Rattle.model.specs.Resolver.{requestOctets, oldKey, renewalOctets, adoptionOctets, deletionOctets, isKeyRecord}
-use Rattle.compression.specs.declared.Got.{Got}
-use Rattle.compression.specs.declared.Got.the-variants.{Bad, Name}
-use Rattle.compression.specs.Name.{NameRead}
+use Rattle.model.specs.Resolver.{requestOctets, oldKey, renewalOctets, adoptionOctets, deletionOctets}
 use Rattle.replies.specs.Parts.{recordFront}
 use Rattle.replies.proofs.Laws.{record-octets}
 use Rattle.requests.specs.Pieces.{headerOctets, questionOctets, askedOctets, requestFront}
@@ -92,36 +88,3 @@ module _ (id : ℕ) (name : List ℕ) (g : Algorithm) where
   pub deletion-octets : requestFront id 1 name g 0 0 5 0 ≡ deletionOctets id name g
   unfolding deletionOctets
   deletion-octets = sym (append-nil _) ∙ request-octets id name g 0 0 5 [] 0 []
-
--- ── A KEY record ────────────────────────────────────────────────────────────────────────────────────────────────────
-
-same-test : (a b c d : ℕ) → (a ≡ b → c ≡ d) → (c ≡ d → a ≡ b) → eqb a b ≡ eqb c d
-same-test a b c d to from = by (eqb c d) refl
-  where
-    by : (t : Bool) → eqb c d ≡ t → eqb a b ≡ t
-    by true e = eq-eqb a b (from (eqb-true c d e))
-    by false e = ne-eqb a b (λ x. eqb-false c d e (to x))
-
-module _ (key out : List ℕ) (g : Got) (n : NameRead key (readPlain key 0) out g) where
-  pub key-unnamed : (place : ℕ) → g ≡ Bad place → false ≡ isKeyRecord key
-  unfolding isKeyRecord
-  key-unnamed place e = simp (n .says, e)
-
-  module _ (len next : ℕ) (e : g ≡ Name len next) where
-    pub key-within : next ≤ length key
-    key-within = rw e at (n .within)
-
-    pub key-cut : length key < next + 10 → false ≡ isKeyRecord key
-    unfolding isKeyRecord
-    key-cut h = simp (n .says, e, ne-eqb (next + 10 + u16At key (next + 8)) (length key) (λ x. omega arith), and-false)
-
-    module _ (kind : ℕ) (typed : (kind ≡ u16At key next) × (kind < 65536)) where
-      pub key-other : (kind ≡ 25 → ⊥) → false ≡ isKeyRecord key
-      unfolding isKeyRecord keyType
-      key-other h = simp (n .says, e, sym (typed .0), ne-eqb kind 25 h)
-
-      pub key-filled : kind ≡ 25 → next + 10 ≤ length key → (size : ℕ) → (size ≡ u16At key (next + 8)) × (size < 65536)
-          → eqb (length key - (next + 10)) size ≡ isKeyRecord key
-      unfolding isKeyRecord keyType
-      key-filled h room size sized =
-          simp (n .says, e, sym (typed .0), eq-eqb kind 25 h, sym (sized .0)) (same-test (length key - (next + 10)) size (next + 10 + size) (length key) (λ x. omega arith) (λ x. omega arith))

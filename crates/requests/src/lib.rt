@@ -1,32 +1,13 @@
 // The resolver's requests (02, CR 1; 002, 2.3 to 2.5): their octets, into the lent buffer. A writer takes the place and answers the next one.
-use compression::Got;
 use model::Algorithm;
 ghost use mathlib.Core.Path.{_≡_};
 ghost use Prim.Native.Nat.{_+_, _≤_, _<_};
 ghost use lib.ListN.{length};
 ghost use Rattle.model.specs.Names.{algorithmName};
-ghost use Rattle.model.specs.Resolver.{isKeyRecord, oldKey, renewalOctets, adoptionOctets, deletionOctets};
+ghost use Rattle.model.specs.Resolver.{oldKey, renewalOctets, adoptionOctets, deletionOctets};
 ghost use Rattle.octets.specs.Wrote.{Wrote};
 ghost use Rattle.replies.specs.Parts.{Replied};
 ghost use Rattle.requests.specs.Pieces.{headerOctets, questionOctets, askedOctets, requestFront};
-
-// Whether the octets are one KEY record (type 25) and nothing more, its owner name uncompressed.
-pub fn is_key_record(key: &[u8]) -> bool
-    ensures { λ r. ⌜ r ≡ isKeyRecord (now (key .entry)) ⌝ }
-{
-    match compression::skip_plain(key, 0) {
-        Got::Bad(_) => false,
-        Got::Name { len: _, next } => {
-            if key.len() - next < 10 {
-                return false;
-            }
-            if octets::u16_at(key, next) != 25 {
-                return false;
-            }
-            key.len() - (next + 10) == octets::u16_at(key, next + 8)
-        }
-    }
-}
 
 // The algorithm's name.
 fn algorithm_into(buf: &mut [u8], at: usize, g: Algorithm) -> usize

@@ -20,7 +20,8 @@ use Rattle.model.specs.Octets.{put}
 use Rattle.model.specs.Names.{wireName}
 use Rattle.model.specs.Checks.{check}
 use Rattle.model.specs.Calls.{roomFor}
-use Rattle.model.specs.Resolver.{NOKEY, ROOM, nameOf, adoptedIn, offeredIn, adoptedKey, offeredKey, opened, unwritten, sent, renewalOctets, adoptionOctets, deletionOctets, isKeyRecord, turn, rootOr, writtenRenewal, writtenAdoption, writtenDeletion, writtenInto}
+use Rattle.model.specs.Tkey.{isKeyRecord}
+use Rattle.model.specs.Resolver.{NOKEY, ROOM, nameOf, adoptedIn, offeredIn, adoptedKey, offeredKey, opened, unwritten, sent, renewalOctets, adoptionOctets, deletionOctets, turn, rootOr, writtenRenewal, writtenAdoption, writtenDeletion, writtenInto}
 use Rattle.replies.specs.Parts.{Replied}
 use Rattle.requests.proofs.Laws.{renewal-length, adoption-length, deletion-length}
 use Rattle.resolver_requests.specs.Sent.{Sent, sentBy, nameSize}

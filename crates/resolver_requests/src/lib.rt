@@ -152,7 +152,7 @@ fn renewal_named(
     if !names::wire_name(name) {
         return unsent(s, 6);
     }
-    if !requests::is_key_record(key) {
+    if !tkey::is_key_record(key) {
         return unsent(s, 6);
     }
     let holding = s.holding;

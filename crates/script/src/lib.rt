@@ -232,9 +232,12 @@ fn args_of(line: &[u8], kinds: &[u8], arena: &mut [u8]) -> Args {
 
 // ── A batch's items ─────────────────────────────────────────────────────────────────────────────────────────────────
 
-// Word i of an item, from 0: its verdict or one of its numbers.
+// Word i of an item, from 0: one of its verdicts or of its numbers.
 fn item_word(i: usize, w: &[u8]) -> Number {
     if i == 1 {
+        return verdict(w);
+    }
+    if i == 6 {
         return verdict(w);
     }
     words::read_number(w)
@@ -246,23 +249,23 @@ fn keep_word(items: &mut [u64], i: usize, x: u64) {
     }
 }
 
-// How many items the words behind `from` say, if they read: six words an item. Only as many words are kept as there is room for.
+// How many items the words behind `from` say, if they read: nine words an item. Only as many words are kept as there is room for.
 fn items_of(line: &[u8], from: usize, items: &mut [u64]) -> Number {
     let mut at = from;
     let mut i: usize = 0;
     while at < line.len() {
         let start = at + 1;
         at = word_end(line, start);
-        let Number::Is(x) = item_word(i % 6, part(line, start, at)) else {
+        let Number::Is(x) = item_word(i % 9, part(line, start, at)) else {
             return Number::None;
         };
         keep_word(items, i, x);
         i += 1;
     }
-    if i % 6 != 0 {
+    if i % 9 != 0 {
         return Number::None;
     }
-    Number::Is((i / 6) as u64)
+    Number::Is((i / 9) as u64)
 }
 
 // ── A line ──────────────────────────────────────────────────────────────────────────────────────────────────────────
@@ -291,6 +294,15 @@ fn table_call(call: TableCall, line: &[u8], kinds: &[u8], arena: &mut [u8]) -> C
     command_of(Call::Table(call), line, kinds, arena)
 }
 
+// A message's line: without a keying verdict and a lent record, or with them. Those that are not said are bad and no octets.
+fn read_message_line(line: &[u8], arena: &mut [u8]) -> Command {
+    let a = args_of(line, b"nvono", arena);
+    if a.read {
+        return if_read(Call::Table(TableCall::Message), a);
+    }
+    table_call(TableCall::Message, line, b"nvonovo", arena)
+}
+
 fn resolver_call(call: ResolverCall, line: &[u8], kinds: &[u8], arena: &mut [u8]) -> Command {
     command_of(Call::Resolver(call), line, kinds, arena)
 }
@@ -316,7 +328,7 @@ fn read_table_line(word: &[u8], line: &[u8], arena: &mut [u8]) -> Command {
         return table_call(TableCall::Look, line, b"o", arena);
     }
     if words::is_word(word, b"message") {
-        return table_call(TableCall::Message, line, b"nvono", arena);
+        return read_message_line(line, arena);
     }
     if words::is_word(word, b"list") {
         return table_call(TableCall::List, line, b"", arena);

@@ -12,7 +12,8 @@ use Rattle.model.specs.Messages.{Message, readMessage}
 use Rattle.model.specs.Tables.{Table, namesOf, pairAt, suffixAt, withClock, withPair}
 use Rattle.model.specs.Checks.{check}
 use Rattle.model.specs.Judging.{Holder, heldPair, Given, Judged, judge}
-use Rattle.model.specs.Calls.{DONE, TABLE, SIZE, OFFER, FORMAT, NOTQUERY, ROOM, Result, refusalAt, refusal, refuses, breaks, unchanged, leaves, sizeOk, offerOk, roomFor, replyTo, replied, answered, messageStep, message, messageOn, timeOf, octetsOwner, ownerOf, stepOf, holderAt, served, bufferAfter, Step as ModelStep}
+use Rattle.model.specs.Replies.{secondOk}
+use Rattle.model.specs.Calls.{DONE, TABLE, SIZE, OFFER, FORMAT, NOTQUERY, ROOM, KEYREC, Result, refusalAt, refusal, refuses, breaks, unchanged, leaves, sizeOk, offerOk, roomFor, replyTo, replied, answered, messageStep, message, messageOn, timeOf, octetsOwner, ownerOf, stepOf, holderAt, served, bufferAfter, Step as ModelStep}
 use Rattle.model.proofs.Tests.{by-check, by-place}
 use Rattle.model.proofs.CallLaws.{same-row, holderBy, withHeld, buffer-refused, changes-it}
 use Rattle.judging.specs.declared.Who.the-variants.{Pair as Owner}
@@ -62,9 +63,9 @@ module _ (h : Holder) where
   passes n g = by-check (Quiet h) (refuses h) n (quiet-refusal n g)
 
   quiet-answered : (g : Given) (room : ℕ) (m : Message) → Quiet h (answered h g room m)
-  unfolding answered NOTQUERY ROOM
+  unfolding answered NOTQUERY KEYREC ROOM
   quiet-answered g room m =
-      passes NOTQUERY (omega arith) (not (m .response)) λ _. passes ROOM (omega arith) (roomFor room (replyTo h g m)) λ _. quiet-replied g (judge h g m) (replyTo h g m)
+      passes NOTQUERY (omega arith) (not (m .response)) λ _. passes KEYREC (omega arith) (secondOk (judge h g m .decision) (g .second)) λ _. passes ROOM (omega arith) (roomFor room (replyTo h g m)) λ _. quiet-replied g (judge h g m) (replyTo h g m)
 
   quiet-message : (g : Given) (room : ℕ) (octets : List ℕ) → Quiet h (messageStep h g room octets)
   unfolding messageStep SIZE OFFER
@@ -87,12 +88,9 @@ module _ (row : ℕ) (x : Step) (w s : List ℕ) where
 
 -- ── The call ────────────────────────────────────────────────────────────────────────────────────────────────────────
 
-module _ (w s m : List ℕ) (time : ℕ) (good : Bool) (offer b b′ : List ℕ) where
+module _ (w s m : List ℕ) (given : Given) (b b′ : List ℕ) where
   abbrev calls : Table → Result
-  calls t = served t (message time good offer (length b) m)
-
-  abbrev given : Given
-  given = record { now = time; good = good; offer = offer }
+  calls t = served t (message given (length b) m)
 
   module _ (o : Option ℕ) (owner : octetsOwner (namesOf (tableOf w s)) m ≡ o) (h : Holder) (held : h ≡ holderBy (tableOf w s) o) (x : Step)
       (steps : Steps (messageStep h given (length b) m) b x b′) where
@@ -101,7 +99,7 @@ module _ (w s m : List ℕ) (time : ℕ) (good : Bool) (offer b b′ : List ℕ)
 
     does : calls (tableOf w s) ≡ record { table = withHeld (tableOf w s) o (messageStep (holderBy (tableOf w s) o) given (length b) m .pair); outcome = messageStep (holderBy (tableOf w s) o) given (length b) m .outcome }
     unfolding ownerOf stepOf
-    does = changes-it (tableOf w s) (message time good offer (length b) m) o _ owner refl
+    does = changes-it (tableOf w s) (message given (length b) m) o _ owner refl
 
     its-answer : x .answer ≡ calls (tableOf w s) .outcome .answer
     its-answer = its-step .answer ∙ sym (ap (λ (r : Result). r .outcome .answer) does)
@@ -173,9 +171,9 @@ names-kept : (t : Table) (time : ℕ) → namesOf (withClock t time) ≡ namesOf
 unfolding namesOf withClock
 names-kept t time = refl
 
-module _ (w s : List ℕ) (time : ℕ) (w₁ : List ℕ) (n : ℕ) (e : Entered w s time w₁ n) (m : List ℕ) (good : Bool) (offer b : List ℕ) where
+module _ (w s : List ℕ) (time : ℕ) (w₁ : List ℕ) (n : ℕ) (e : Entered w s time w₁ n) (m : List ℕ) (given : Given) (is-now : given .now ≡ time) (b : List ℕ) where
   abbrev whole-call : Table → Result
-  whole-call t = messageOn t time good offer (length b) m
+  whole-call t = messageOn t given (length b) m
 
   abbrev its-own : List ℕ → Option ℕ
   its-own v = octetsOwner (namesOf (tableOf v s)) m
@@ -183,7 +181,7 @@ module _ (w s : List ℕ) (time : ℕ) (w₁ : List ℕ) (n : ℕ) (e : Entered 
   pub whole-refused : (n ≡ 0 → ⊥) → {a : Answer} → a ≡ refusal n .answer → Answered whole-call (its-own w) w s w₁ b b a
   unfolding messageOn timeOf unchanged
   whole-refused z {a} q =
-      let is : whole-call (tableOf w s) ≡ unchanged (tableOf w s) n = call-refused (tableOf w s) time n (e .says) (message time good offer (length b) m) refl z in
+      let is : whole-call (tableOf w s) ≡ unchanged (tableOf w s) n = call-refused (tableOf w s) time n (e .says) (message given (length b) m) (ap some is-now) z in
       let same : w₁ ≡ w = e .refused z in
       record {
         shows = rw (same, is) refl;
@@ -194,12 +192,12 @@ module _ (w s : List ℕ) (time : ℕ) (w₁ : List ℕ) (n : ℕ) (e : Entered 
         kept = subst (λ (v : List ℕ). OwnOf (its-own w) w v) (sym same) (own-same (its-own w) w);
       }
 
-  module _ (z : n ≡ 0) {w′ b′ : List ℕ} {a : Answer} (r : AnsweredRest (λ t. served t (message time good offer (length b) m)) (its-own w₁) w₁ s w′ b b′ a) where
-    is-rest : whole-call (tableOf w s) ≡ served (tableOf w₁ s) (message time good offer (length b) m)
+  module _ (z : n ≡ 0) {w′ b′ : List ℕ} {a : Answer} (r : AnsweredRest (λ t. served t (message given (length b) m)) (its-own w₁) w₁ s w′ b b′ a) where
+    is-rest : whole-call (tableOf w s) ≡ served (tableOf w₁ s) (message given (length b) m)
     unfolding messageOn timeOf
     is-rest =
-        call-passed (tableOf w s) time n (e .says) (message time good offer (length b) m) refl z
-        ∙ ap (λ (t : Table). served t (message time good offer (length b) m)) (sym (e .table z))
+        call-passed (tableOf w s) time n (e .says) (message given (length b) m) (ap some is-now) z
+        ∙ ap (λ (t : Table). served t (message given (length b) m)) (sym (e .table z))
 
     same-own : its-own w₁ ≡ its-own w
     same-own = ap (λ (t : Table). octetsOwner (namesOf t) m) (e .table z) ∙ ap (λ (ns : List (List ℕ)). octetsOwner ns m) (names-kept (tableOf w s) time)

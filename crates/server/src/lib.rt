@@ -3,6 +3,7 @@
 // crate model's Calls, on the table that the lent words and octets show.
 use judging::Who;
 use model::Answer;
+use model::Verdicts;
 use searching::Found;
 use step::Step;
 ghost use mathlib.Core.Path.{_≡_};
@@ -13,6 +14,7 @@ ghost use Rattle.model.specs.Tables.{namesOf, tableRules};
 ghost use Rattle.model.specs.Calls.{message as messageCall, octetsOwner, served, messageOn};
 ghost use Rattle.store.specs.Layout.{layoutRule, tableOf};
 ghost use Rattle.outcomes.specs.Gate.{Open};
+ghost use Rattle.step.specs.Steps.{givenBy};
 ghost use Rattle.server.specs.Serve.{Answered, AnsweredRest, RowKept};
 
 // Stores the pair of a row as a step left it, unless the step was refused.
@@ -33,14 +35,14 @@ fn keep_row(words: &mut [u64], suffixes: &[u8], row: usize, s: Step) -> Answer
 fn message_passed<'a>(
     words: &mut [u64],
     suffixes: &[u8],
-    time: u64,
-    good: bool,
+    verdicts: Verdicts,
     m: &'a [u8],
     offer: &'a [u8],
+    second: &[u8],
     reply: &mut [u8],
 ) -> Answer
-    requires { ⌜ Open (now words) (now suffixes) time ⌝ }
-    ensures { λ r. ⌜ AnsweredRest (λ t. served t (messageCall time good (now (offer .entry)) (length (now (reply .entry))) (now (m .entry))))
+    requires { ⌜ Open (now words) (now suffixes) (verdicts .now) ⌝ }
+    ensures { λ r. ⌜ AnsweredRest (λ t. served t (messageCall (givenBy verdicts (now (offer .entry)) (now (second .entry))) (length (now (reply .entry))) (now (m .entry))))
         (octetsOwner (namesOf (tableOf (now (words .entry)) (now (suffixes .entry)))) (now (m .entry)))
         (now (words .entry)) (now (suffixes .entry)) (now (words .exit)) (now (reply .entry)) (now (reply .exit)) r ⌝ }
 {
@@ -53,12 +55,21 @@ fn message_passed<'a>(
                 number: row as u64 + 1,
                 pair,
             };
-            let s = step::message_step(m, reading, who, suffix, time, good, offer, reply);
+            let s = step::message_step(m, reading, who, suffix, verdicts, offer, second, reply);
             keep_row(words, suffixes, row, s)
         }
         Found::Missing(_) => {
             let none = &m[..0];
-            let s = step::message_step(m, reading, Who::Nobody, none, time, good, offer, reply);
+            let s = step::message_step(
+                m,
+                reading,
+                Who::Nobody,
+                none,
+                verdicts,
+                offer,
+                second,
+                reply,
+            );
             s.answer
         }
     }
@@ -68,42 +79,42 @@ fn message_passed<'a>(
 pub fn message_ruled<'a>(
     words: &mut [u64],
     suffixes: &[u8],
-    time: u64,
-    good: bool,
+    verdicts: Verdicts,
     message: &'a [u8],
     offer: &'a [u8],
+    second: &[u8],
     reply: &mut [u8],
 ) -> Answer
     requires { ⌜ tableRules (tableOf (now words) (now suffixes)) ≡ true ⌝ }
-    ensures { λ r. ⌜ Answered (λ t. messageOn t time good (now (offer .entry)) (length (now (reply .entry))) (now (message .entry)))
+    ensures { λ r. ⌜ Answered (λ t. messageOn t (givenBy verdicts (now (offer .entry)) (now (second .entry))) (length (now (reply .entry))) (now (message .entry)))
         (octetsOwner (namesOf (tableOf (now (words .entry)) (now (suffixes .entry)))) (now (message .entry)))
         (now (words .entry)) (now (suffixes .entry)) (now (words .exit)) (now (reply .entry)) (now (reply .exit)) r ⌝ }
 {
-    let n = outcomes::enter_ruled(words, suffixes, time);
+    let n = outcomes::enter_ruled(words, suffixes, verdicts.now);
     if n != 0 {
         return outcomes::refused(n);
     }
-    message_passed(words, suffixes, time, good, message, offer, reply)
+    message_passed(words, suffixes, verdicts, message, offer, second, reply)
 }
 
-// Message: judges a message, of which the MAC's verdict, the time and the offered key data are given, changes the pair that it belongs to as judging
+// Message: judges a message, of which the time, the MAC's verdict, the keying verdict, the offered key data and the lent KEY record are given, changes the pair that it belongs to as judging
 // decides, and writes the reply into the first octets of `reply`. Returns the reply's length, the TSIG error, the skew, and the pair and the serial
-// of the key that signed. Refused, in this order, with TABLE (1), TIME (2), CLOCK (3), SIZE (4), OFFER (5), FORMAT (6), NOTQUERY (7), ROOM (8).
+// of the key that signed. Refused, in this order, with TABLE (1), TIME (2), CLOCK (3), SIZE (4), OFFER (5), FORMAT (6), NOTQUERY (7), KEYREC (19), ROOM (8).
 pub fn message<'a>(
     words: &mut [u64],
     suffixes: &[u8],
-    time: u64,
-    good: bool,
+    verdicts: Verdicts,
     message: &'a [u8],
     offer: &'a [u8],
+    second: &[u8],
     reply: &mut [u8],
 ) -> Answer
-    ensures { λ r. ⌜ Answered (λ t. messageOn t time good (now (offer .entry)) (length (now (reply .entry))) (now (message .entry)))
+    ensures { λ r. ⌜ Answered (λ t. messageOn t (givenBy verdicts (now (offer .entry)) (now (second .entry))) (length (now (reply .entry))) (now (message .entry)))
         (octetsOwner (namesOf (tableOf (now (words .entry)) (now (suffixes .entry)))) (now (message .entry)))
         (now (words .entry)) (now (suffixes .entry)) (now (words .exit)) (now (reply .entry)) (now (reply .exit)) r ⌝ }
 {
     if !ruling::rules_ok(words, suffixes) {
         return outcomes::refused(1);
     }
-    message_ruled(words, suffixes, time, good, message, offer, reply)
+    message_ruled(words, suffixes, verdicts, message, offer, second, reply)
 }

@@ -3,7 +3,7 @@
 use second::batch::{Item, Span, MOST_ITEMS};
 use second::calls::TIME_LIMIT;
 use second::script::run;
-use second::{batch, enrol, message, Done, Refusal, Table};
+use second::{batch, enrol, Done, Refusal, Table};
 
 use crate::build::*;
 
@@ -27,6 +27,8 @@ fn laid(messages: &[(u64, Vec<u8>)]) -> (Vec<u8>, Vec<Item>) {
         good: true,
         message: lay(octets),
         offer: lay(&OFFER),
+        fits: false,
+        record: NO_OCTETS,
     };
     let items = messages.iter().map(item).collect();
     (lent, items)
@@ -112,6 +114,8 @@ fn table_then_batch_then_all_else() {
         good: true,
         message: Span { from: 0, size: 1 },
         offer: NO_OCTETS,
+        fits: false,
+        record: NO_OCTETS,
     };
     refused(&broken, &[], &[], Refusal::Table);
     refused(&broken, &[], &[outside; 65], Refusal::Table);
@@ -134,21 +138,25 @@ fn spans_inside_and_outside() {
     let lent = Draft::ordinary().octets();
     let end = lent.len() as u64;
     let whole = Span { from: 0, size: end };
-    let item = |message: Span, offer: Span| Item {
+    let item = |message: Span, offer: Span, record: Span| Item {
         time: 1000,
         good: true,
         message,
         offer,
+        fits: false,
+        record,
     };
-    let size_of = |message: Span, offer: Span| {
-        let results = batch(&mut day(), &lent, &[item(message, offer)], &mut []);
+    let size_of = |message: Span, offer: Span, record: Span| {
+        let items = [item(message, offer, record)];
+        let results = batch(&mut day(), &lent, &items, &mut []);
         results.map(|results| results[0].err())
     };
     let inside = [(0, 0), (0, end), (1, end - 1), (end - 1, 1), (end, 0)];
     for (from, size) in inside {
         let span = Span { from, size };
-        assert_eq!(size_of(whole, span), Ok(None));
-        assert!(size_of(span, NO_OCTETS).is_ok());
+        assert_eq!(size_of(whole, span, NO_OCTETS), Ok(None));
+        assert_eq!(size_of(whole, NO_OCTETS, span), Ok(None));
+        assert!(size_of(span, NO_OCTETS, NO_OCTETS).is_ok());
     }
     let most = u64::MAX;
     let outside = [
@@ -171,13 +179,19 @@ fn spans_inside_and_outside() {
     ];
     for (from, size) in outside {
         let span = Span { from, size };
-        refused(&day(), &lent, &[item(span, NO_OCTETS)], Refusal::Batch);
-        refused(&day(), &lent, &[item(whole, span)], Refusal::Batch);
-        // Wherever such an item stands.
-        for place in [0, 31, 63] {
-            let mut items = [item(whole, whole); MOST_ITEMS];
-            items[place] = item(whole, span);
-            refused(&day(), &lent, &items, Refusal::Batch);
+        let bent = [
+            item(span, NO_OCTETS, NO_OCTETS),
+            item(whole, span, NO_OCTETS),
+            item(whole, NO_OCTETS, span),
+        ];
+        for bent in bent {
+            refused(&day(), &lent, &[bent], Refusal::Batch);
+            // Wherever such an item stands.
+            for place in [0, 31, 63] {
+                let mut items = [item(whole, whole, whole); MOST_ITEMS];
+                items[place] = bent;
+                refused(&day(), &lent, &items, Refusal::Batch);
+            }
         }
     }
 }
@@ -194,6 +208,8 @@ fn spans_may_overlap() {
         good: true,
         message: whole,
         offer,
+        fits: false,
+        record: NO_OCTETS,
     };
     let within = Span { from: 12, size: 3 };
     let items = [item(within), item(whole), item(NO_OCTETS)];
@@ -335,6 +351,8 @@ fn each_refusal_between_items_that_are_done() {
             size: good.len() as u64,
         },
         offer: Span { from: 9, size },
+        fits: false,
+        record: NO_OCTETS,
     };
     let items = [item(1024), item(1025), item(1024)];
     let results = batch(&mut day(), &lent, &items, &mut []).unwrap();
@@ -359,6 +377,8 @@ fn places_are_in_the_item() {
         good: true,
         message: Span { from, size },
         offer: NO_OCTETS,
+        fits: false,
+        record: NO_OCTETS,
     };
     for skipped in [at, at + 27] {
         let sizes: Vec<u64> = (12..=27).collect();
@@ -429,8 +449,9 @@ fn the_line_of_a_batch() {
     let (size, at) = (denied.len(), passed.len());
     let reply = "123481090001000000000000017a076578616d706c650000060001";
     let script = format!(
-        "{ENROL}batch 54 {lent} 1300 good 0 {size} 0 0 1300 good {at} {size} 0 0 \
-         1299 good 0 {size} 0 0 1300 bad 0 {size} 0 0 1300 bad 0 {size} 0 0\nlist\n"
+        "{ENROL}batch 54 {lent} 1300 good 0 {size} 0 0 bad 0 0 \
+         1300 good {at} {size} 0 0 good 0 9 1299 good 0 {size} 0 0 bad 0 0 \
+         1300 bad 0 {size} 0 0 bad 0 0 1300 bad 0 {size} 0 0 good 0 0\nlist\n"
     );
     let expected = format!(
         "0 0 0 0 1 1 - 0\n0 5\n0 0 0 -300 1 1 - 0\n0 27 17 0 0 0 {reply} 0\n\
@@ -441,16 +462,17 @@ fn the_line_of_a_batch() {
 
 #[test]
 fn lines_of_batches_with_little_in_them() {
-    let nothing = "5 good 0 0 0 0";
+    let nothing = "5 good 0 0 0 0 bad 0 0";
     let items = |count: usize| vec![nothing; count].join(" ");
     let script = format!(
         "batch 0 -\nbatch 18446744073709551615 00\nbatch 000 - {}\nbatch 9 - {}\n\
-         batch 9 - 7 bad 0 1 0 0\nbatch 9 aB {nothing} 9 good 18446744073709551615 1 0 0\nlist\n",
+         batch 9 - 7 bad 0 1 0 0 bad 0 0\nbatch 9 - 7 bad 0 0 0 0 bad 1 0\n\
+         batch 9 aB {nothing} 9 good 18446744073709551615 1 0 0 good 0 0\nlist\n",
         items(2),
         items(65),
     );
     let short = "4 0 0 0 0 0 - 0\n";
-    let expected = format!("0 0\n0 0\n0 2\n{short}{short}17 0\n17 0\n17 0\nclock\t5\n");
+    let expected = format!("0 0\n0 0\n0 2\n{short}{short}17 0\n17 0\n17 0\n17 0\nclock\t5\n");
     assert_eq!(output(&script), expected);
 }
 
@@ -459,9 +481,9 @@ fn lines_of_batches_with_little_in_them() {
 fn the_papers_example() {
     let request = "1234000000010000000000000000f900ff";
     let script = format!(
-        "{ENROL}batch 20 {request}c00c 1200 bad 0 17 0 0 1201 bad 0 17 0 0 \
-         1202 bad 0 18 0 0 1100 bad 19 0 19 0\n\
-         batch 20 {request} 1300 bad 0 17 17 1\nlist\n"
+        "{ENROL}batch 20 {request}c00c 1200 bad 0 17 0 0 bad 0 0 1201 bad 0 17 0 0 bad 0 0 \
+         1202 bad 0 18 0 0 bad 0 0 1100 bad 19 0 19 0 bad 0 0\n\
+         batch 20 {request} 1300 bad 0 17 17 1 bad 0 0\nlist\n"
     );
     let expected = "0 0 0 0 1 1 - 0\n0 4\n\
          0 17 0 0 0 0 1234800500010000000000000000f900ff 0\n\
@@ -484,24 +506,37 @@ fn bad_lines_of_batches() {
         "batch 0 - 5",
         "batch 0 - 5 good",
         "batch 0 - 5 good 0 0 0",
-        "batch 0 - 5 good 0 0 0 0 5",
-        "batch 0 - 5 good 0 0 0 0 ",
-        "batch 0 - 5 good 0 0 0 0 5 good 0 0 0",
-        "batch 0 - 5 good 0 0 0 0  5 good 0 0 0 0",
-        "batch 0 - 5 Good 0 0 0 0",
-        "batch 0 - good 5 0 0 0 0",
-        "batch 0 - - good 0 0 0 0",
-        "batch 0 - 5 good - 0 0 0",
-        "batch 0 - 5 good 0 -1 0 0",
-        "batch 0 - 5 good 0 0 18446744073709551616 0",
-        "batch 0 - 5 good 0 0 0 18446744073709551616",
-        "batch 0 - 5 good 0 0 0 0 6 good 0 0 0 x",
+        // An item's words before CR 10, and up to all but one.
+        "batch 0 - 5 good 0 0 0 0",
+        "batch 0 - 5 good 0 0 0 0 bad",
+        "batch 0 - 5 good 0 0 0 0 bad 0",
+        "batch 0 - 5 good 0 0 0 0 bad 0 0 5",
+        "batch 0 - 5 good 0 0 0 0 bad 0 0 ",
+        "batch 0 - 5 good 0 0 0 0 bad 0 0 5 good 0 0 0 0 bad 0",
+        "batch 0 - 5 good 0 0 0 0 bad 0 0  5 good 0 0 0 0 bad 0 0",
+        "batch 0 - 5 Good 0 0 0 0 bad 0 0",
+        "batch 0 - 5 good 0 0 0 0 Bad 0 0",
+        "batch 0 - 5 good 0 0 0 0 1 0 0",
+        "batch 0 - good 5 0 0 0 0 bad 0 0",
+        "batch 0 - 5 good bad 0 0 0 0 0 0",
+        "batch 0 - - good 0 0 0 0 bad 0 0",
+        "batch 0 - 5 good - 0 0 0 bad 0 0",
+        "batch 0 - 5 good 0 -1 0 0 bad 0 0",
+        "batch 0 - 5 good 0 0 18446744073709551616 0 bad 0 0",
+        "batch 0 - 5 good 0 0 0 18446744073709551616 bad 0 0",
+        "batch 0 - 5 good 0 0 0 0 bad 18446744073709551616 0",
+        "batch 0 - 5 good 0 0 0 0 bad 0 18446744073709551616",
+        "batch 0 - 5 good 0 0 0 0 bad - 0",
+        "batch 0 - 5 good 0 0 0 0 bad 0 0 6 good 0 0 0 0 bad 0 x",
+        // Three items of six words are no two of nine.
+        "batch 0 - 5 good 0 0 0 0 5 good 0 0 0 0 5 good 0 0 0 0",
     ];
     let script = bad.join("\n") + "\nlist";
     let expected: String = (1..=bad.len()).map(|n| format!("bad line {n}\n")).collect();
     assert_eq!(output(&script), expected + "clock\t0\n");
     // One that does not read is not counted as an item.
-    let many = "batch 0 -".to_string() + &" 5 good 0 0 0 0".repeat(64) + " 5 good 0 0 0 x";
+    let many =
+        "batch 0 -".to_string() + &" 5 good 0 0 0 0 bad 0 0".repeat(64) + " 5 good 0 0 0 0 bad 0 x";
     assert_eq!(output(&many), "bad line 1\n");
 }
 
@@ -509,7 +544,7 @@ fn bad_lines_of_batches() {
 #[test]
 fn a_line_full_of_items() {
     let line = |zeros: usize| "batch ".to_string() + &"0".repeat(zeros) + " -";
-    let items = " 0 bad 0 0 0 0".repeat(14_000);
+    let items = " 0 bad 0 0 0 0 bad 0 0".repeat(9_000);
     let short = 200_000 - line(0).len() - items.len();
     assert_eq!(output(&(line(short) + &items)), "17 0\n");
     assert_eq!(output(&(line(short + 1) + &items)), "bad line 1\n");

@@ -1,6 +1,6 @@
 //! Messages and tables to test with, built octet by octet.
 
-use second::{enrol, names, Done, Refusal, Table};
+use second::{enrol, names, Done, Given, Refusal, Table};
 
 pub const A: u16 = 1;
 pub const SOA: u16 = 6;
@@ -10,6 +10,8 @@ pub const TSIG: u16 = 250;
 pub const IN: u16 = 1;
 pub const ANY: u16 = 255;
 
+/// Diffie-Hellman, server and resolver assignment.
+pub const RENEWALS: [u16; 3] = [4097, 4098, 4099];
 pub const RENEWAL: u16 = 4098;
 pub const ADOPTION: u16 = 4100;
 pub const DELETION: u16 = 5;
@@ -198,7 +200,12 @@ impl Draft {
 
     /// An unsigned renewal of a key, with its KEY record.
     pub fn renewal(key: &str) -> Draft {
-        Draft::tkey(&Tkey::new("new.", RENEWAL, old(key))).add(key_record())
+        Draft::renewal_by(RENEWAL, key)
+    }
+
+    /// The same in any of the three modes.
+    pub fn renewal_by(mode: u16, key: &str) -> Draft {
+        Draft::tkey(&Tkey::new("new.", mode, old(key))).add(key_record())
     }
 
     /// An unsigned adoption of one key in place of another.
@@ -271,12 +278,28 @@ pub fn with_key(pair: u64, serial: u64) -> Result<Done, Refusal> {
     })
 }
 
+/// A message call without a KEY that fits and without a lent record.
+pub fn message(
+    table: &mut Table,
+    time: u64,
+    good: bool,
+    octets: &[u8],
+    offer: &[u8],
+    reply: &mut [u8],
+) -> Result<Done, Refusal> {
+    second::message(table, &Given::new(time, good, offer), octets, reply)
+}
+
 /// A good message with an offer of four octets and all room: the result and
 /// the reply.
 pub fn send(table: &mut Table, time: u64, octets: &[u8]) -> (Done, Vec<u8>) {
-    let mut reply = vec![FILL; 65_535];
     let offer = [0xde, 0xad, 0xbe, 0xef];
-    let done = second::message(table, time, true, octets, &offer, &mut reply).expect("done");
+    send_given(table, &Given::new(time, true, &offer), octets)
+}
+
+pub fn send_given(table: &mut Table, given: &Given, octets: &[u8]) -> (Done, Vec<u8>) {
+    let mut reply = vec![FILL; 65_535];
+    let done = second::message(table, given, octets, &mut reply).expect("done");
     assert!(reply[done.length..].iter().all(|&octet| octet == FILL));
     reply.truncate(done.length);
     (done, reply)
@@ -292,15 +315,23 @@ pub fn denied(table: &mut Table, time: u64, octets: &[u8]) -> (u8, u16) {
 /// The TKEY error of a good message, whose RCODE is 0.
 pub fn tkey_error(table: &mut Table, time: u64, octets: &[u8]) -> u16 {
     let (done, reply) = send(table, time, octets);
-    assert_eq!((done.error, reply[3] & 15), (0, 0));
-    let (_, data) = tkey_answer(&reply);
+    assert_eq!(done.error, 0);
+    tkey_error_in(&reply)
+}
+
+/// The TKEY error of a reply, whose RCODE is 0.
+pub fn tkey_error_in(reply: &[u8]) -> u16 {
+    assert_eq!(reply[3] & 15, 0);
+    let (_, data) = tkey_answer(reply);
     let algorithm = names::plain(&data).unwrap().len();
     u16::from_be_bytes([data[algorithm + 10], data[algorithm + 11]])
 }
 
-/// Name and data of the TKEY record in a reply's answer section.
+/// Name and data of the TKEY record in a reply's answer section, behind which
+/// only a lent KEY record may stand.
 pub fn tkey_answer(reply: &[u8]) -> (Vec<u8>, Vec<u8>) {
-    assert_eq!(reply[4..8], [0, 1, 0, 1]);
+    assert_eq!(reply[4..7], [0, 1, 0]);
+    assert!([1, 2].contains(&reply[7]));
     let owner = names::skip(reply, 12).unwrap() + 4;
     let fixed = names::skip(reply, owner).unwrap();
     assert_eq!(reply[fixed..fixed + 8], [0, 249, 0, 255, 0, 0, 0, 0]);

@@ -1,7 +1,7 @@
 //! 01 "One day at the counter", case by case.
 
 use second::names::Name;
-use second::{message, Algorithm, Done, Key, Keys, Refusal, Table};
+use second::{Algorithm, Done, Key, Keys, Refusal, Table};
 
 use crate::build::*;
 

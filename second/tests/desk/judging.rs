@@ -1,6 +1,6 @@
 //! 01 "Judging, first that applies".
 
-use second::{enrol, issue, look, message, revoke, Done, Keys, Table};
+use second::{enrol, issue, look, revoke, Done, Keys, Table};
 
 use crate::build::*;
 
@@ -318,14 +318,16 @@ fn step_6_other_data_of_renewal_and_adoption() {
         [&name(KEY1)[..], &[0xc0, 12]].concat(),
         too_long,
     ] {
-        for mode in [RENEWAL, ADOPTION] {
+        for mode in [4097, RENEWAL, 4099, ADOPTION] {
             let draft = Draft::tkey(&Tkey::new(KEY1, mode, other.clone())).add(key_record());
             assert_eq!(denied_at_1100(&draft.signed(KEY1, 1100)), FORMERR);
         }
     }
     // Two good names that are not the signing key's are no matter of form.
-    let draft = Draft::tkey(&Tkey::new(KEY1, RENEWAL, [name_of(255), vec![0]].concat()));
-    assert_eq!(asked(day(), &draft).0, 17);
+    for mode in RENEWALS {
+        let draft = Draft::tkey(&Tkey::new(KEY1, mode, [name_of(255), vec![0]].concat()));
+        assert_eq!(asked(day(), &draft).0, 17);
+    }
 }
 
 #[test]
@@ -343,7 +345,7 @@ fn step_7_partial_revocation() {
     for draft in [
         Draft::ordinary(),
         Draft::deletion(KEY1),
-        Draft::tkey(&Tkey::new(KEY1, 4097, old(KEY1))),
+        Draft::tkey(&Tkey::new(KEY1, 4101, old(KEY1))),
     ] {
         let octets = draft.signed(KEY1, 1100);
         assert_eq!(denied(&mut table, 1100, &octets), PARTIAL_REVOKE);
@@ -353,14 +355,17 @@ fn step_7_partial_revocation() {
     let octets = Draft::ordinary().signed(KEY1, 1100);
     let done = message(&mut table, 1100, false, &octets, &[], &mut [0; 512]);
     assert_eq!(done.unwrap().error, 16);
-    // Renewal and adoption are heard.
+    // Renewal in each mode and adoption are heard.
     assert_eq!(asked(table.clone(), &Draft::adoption(KEY2, KEY1)).0, 20);
-    assert_eq!(asked(table, &Draft::renewal(KEY1)).0, 0);
+    for (mode, error) in [(4097, 17), (4098, 0), (4099, 1)] {
+        let draft = Draft::renewal_by(mode, KEY1);
+        assert_eq!(asked(table.clone(), &draft).0, error);
+    }
 }
 
 #[test]
 fn step_9_modes() {
-    for mode in [0, 1, 2, 3, 4, 6, 4097, 4099, 4101, 65_535] {
+    for mode in [0, 1, 2, 3, 4, 6, 4096, 4101, 65_535] {
         let draft = Draft::tkey(&Tkey::new(KEY1, mode, Vec::new()));
         let (error, table) = asked(day(), &draft);
         assert_eq!((error, &table.pairs), (19, &day().pairs));

@@ -5,6 +5,7 @@ mod build;
 mod clients;
 mod day;
 mod judging;
+mod keying;
 mod places;
 mod reading;
 mod refusals;

@@ -1,6 +1,6 @@
 //! CR 6: the place where reading a message first failed.
 
-use second::{look, message, Refusal};
+use second::{look, Refusal};
 
 use crate::build::*;
 

@@ -1,7 +1,7 @@
 //! 01 "Reading".
 
 use second::names::{self, Name};
-use second::{look, message, Done, Refusal};
+use second::{look, Done, Refusal};
 
 use crate::build::*;
 

@@ -1,7 +1,7 @@
 //! 01 "Numbers a caller sees".
 
 use second::calls::TIME_LIMIT;
-use second::{enrol, issue, look, message, new, revoke, Done, Keys, Refusal, Table};
+use second::{enrol, issue, look, new, revoke, Done, Keys, Refusal, Table};
 
 use crate::build::*;
 
@@ -49,7 +49,9 @@ fn numbers() {
     ];
     assert!((1..=15).eq(numbers.into_iter().map(Refusal::number)));
     assert!(numbers.into_iter().all(|refusal| refusal.place() == 0));
-    assert_eq!((Refusal::Batch.number(), Refusal::Batch.place()), (17, 0));
+    for (refusal, number) in [(Refusal::Batch, 17), (Refusal::KeyRec, 19)] {
+        assert_eq!((refusal.number(), refusal.place()), (number, 0));
+    }
     assert_eq!(Refusal::Format(12).place(), 12);
 }
 

@@ -74,7 +74,7 @@ fn results() {
 
 #[test]
 fn bad_lines() {
-    let bad: [&[u8]; 32] = [
+    let bad: [&[u8]; 42] = [
         b"",
         b" ",
         b"new",
@@ -106,6 +106,16 @@ fn bad_lines() {
         b"message 1 Good - 0 -",
         b"message 1 good - 0",
         b"message 1 good - - -",
+        b"message 1 good - 0 - bad",
+        b"message 1 good - 0 - -",
+        b"message 1 good - 0 - Bad -",
+        b"message 1 good - 0 - 1 -",
+        b"message 1 good - 0 - - bad",
+        b"message 1 good - 0 - bad 0",
+        b"message 1 good - 0 - bad ",
+        b"message 1 good - 0 - bad  -",
+        b"message 1 good - 0 - bad - -",
+        b"message 1 - 0 - bad -",
         b"\xff\xfe\x00",
     ];
     let mut runner = Runner::new();

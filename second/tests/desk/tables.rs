@@ -1,7 +1,7 @@
 //! 01, the table rules one by one.
 
 use second::calls::TIME_LIMIT;
-use second::{look, message, Algorithm, Key, Keys, Pair, Refusal, Table};
+use second::{look, Algorithm, Key, Keys, Pair, Refusal, Table};
 
 use crate::build::*;
 

@@ -4,7 +4,8 @@
 #[path = "../../../../second/tests/desk/build.rs"]
 pub mod build;
 
-use luffcringle::{Answer, Octets, Refusal, Table, View, Words, TABLE_OCTETS, TABLE_WORDS};
+use luffcringle::{Answer, Given, Octets, Refusal, Table, View, Words};
+use luffcringle::{TABLE_OCTETS, TABLE_WORDS};
 use second::Algorithm;
 
 // ---- The layout ----
@@ -167,6 +168,27 @@ fn key_of(key: &luffcringle::Key) -> second::Key {
     }
 }
 
+/// What is given with a good message whose KEY, if any, does not fit.
+pub fn good(time: u64, offer: &[u8]) -> Given<'_> {
+    Given {
+        time,
+        good: true,
+        offer,
+        ..Given::default()
+    }
+}
+
+/// The same for the second reader.
+pub fn given_to_them<'a>(given: &Given<'a>) -> second::Given<'a> {
+    second::Given {
+        time: given.time,
+        good: given.good,
+        offer: given.offer,
+        fits: given.fits,
+        record: given.record,
+    }
+}
+
 /// What the second reader answers, as the wrapper says it.
 pub fn as_ours(theirs: Result<second::Done, second::Refusal>) -> Result<Answer, Refusal> {
     theirs.map_err(refusal_of).map(|done| Answer {
@@ -197,5 +219,6 @@ fn refusal_of(refusal: second::Refusal) -> Refusal {
         Theirs::Twin => Ours::Twin,
         Theirs::Full => Ours::Full,
         Theirs::Batch => Ours::Batch,
+        Theirs::KeyRec => Ours::KeyRec,
     }
 }

@@ -1,7 +1,8 @@
 -- `replies::outcome` meets its contract. Assumes nothing.
 use denote.Ref.{now}
 use mathlib.Core.Path.{sym}
-use Rattle.replies.proofs.Answers.{read-so, outcome-in, outcome-answers, no-outcome, out-lent, lent-short}
+use native.Mathlib.Omega.{arith}
+use Rattle.replies.proofs.Answers.{read-so, outcome-in, outcome-key, outcome-answers, no-outcome, out-lent, lent-short}
 use borrow.Author.Needs.{needs}
 use Rattle.replies.proofs.outcome.Statement.{statement}
 use Rattle.replies.proofs.outcome.Tie as tie
@@ -33,12 +34,19 @@ other-data-requires c κs = search needs
 answering-requires : tie.Need-answering-requires
 answering-requires c κs = search needs
 
-tkey-reply-requires : tie.Need-tkey-reply-requires
-tkey-reply-requires c κs =
-    let s = c .before .before .before .before .before .before .before .before .before .before .before .before in
-    let short = lent-short _ _ (c .before .before .before .before .before .name-at .ensures .short) in
+part-of-requires : tie.Need-part-of-requires
+part-of-requires c κs =
+    let s = c .before .before .before .before .before .before .before .before .before .before .before in
+    outcome-key (s .pre .0) _ _ (c .before .before .before .before .before .before .before .only .given .1)
+
+repeated-requires : tie.Need-repeated-requires
+repeated-requires c κs =
+    let s = c .before .before .before .before .before .before .before .before .before .before .before .before .before in
+    let is = c .before .before .before .before .before .before .before .before .before .only .given .1 in
     let r = read-so (s .pre .0) in
-    (r, outcome-in (s .pre .0) _ _ (c .before .before .before .before .before .before .before .before .only .given .1) (c .before .before .before .before .before .before .before .before .before .before .before .before .args .error) (c .before .before .before .before .before .before .before .before .before .before .before .before .args .again) _ (c .before .before .other-data .ensures) _ (c .before .answering .ensures) (s .pre .1), search needs, short, search needs, short)
+    let key = outcome-key (s .pre .0) _ _ is in
+    let fields = outcome-in (s .pre .0) _ _ is (s .args .error) (s .args .again) _ (c .before .before .before .other-data .ensures) _ (c .before .before .answering .ensures) (s .pre .1) in
+    (r, fields, lent-short _ _ (c .before .before .before .before .before .before .name-at .ensures .short), omega (arith, c .before .part-of .ensures .1, key, r .size))
 
 by-length-requires : tie.Need-by-length-requires
 by-length-requires c κs = search needs
@@ -53,8 +61,9 @@ same-length c = search needs
 
 returns-2 : tie.Need-returns-2
 returns-2 c =
-    let s = c .before .before .before .before .before .before .before .before .before .before .before .before .before .before .before .before in
-    outcome-answers (s .pre .0) _ _ (c .before .before .before .before .before .before .before .before .before .before .before .before .only .given .1) (c .before .before .before .before .before .before .before .before .before .before .before .before .before .before .before .before .args .error) (c .before .before .before .before .before .before .before .before .before .before .before .before .before .before .before .before .args .again) _ (c .before .before .before .before .before .before .other-data .ensures) _ (c .before .before .before .before .before .answering .ensures) (s .pre .1) _ _ _ _ (out-lent (c .before .before .before .before .before .before .before .before .before .name-at .ensures)) (c .before .before .before .tkey-reply .ensures) (c .by-length .ensures)
+    let s = c .before .before .before .before .before .before .before .before .before .before .before .before .before .before .before .before .before in
+    let is = c .before .before .before .before .before .before .before .before .before .before .before .before .before .only .given .1 in
+    outcome-answers (s .pre .0) _ _ is (s .args .error) (s .args .again) _ (c .before .before .before .before .before .before .before .other-data .ensures) _ (c .before .before .before .before .before .before .answering .ensures) (s .pre .1) _ _ (out-lent (c .before .before .before .before .before .before .before .before .before .before .name-at .ensures)) (c .before .before .before .before .before .part-of .ensures .0) (c .before .before .before .repeated .ensures) (c .by-length .ensures)
 
 pub outcome-spec : {M : Type 1} → statement M
 outcome-spec =
@@ -69,7 +78,8 @@ outcome-spec =
     part-owner-end
     other-data-requires
     answering-requires
-    tkey-reply-requires
+    part-of-requires
+    repeated-requires
     by-length-requires
     returns
     same-length

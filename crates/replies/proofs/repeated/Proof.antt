@@ -13,14 +13,14 @@ repeated-size-requires c κs = search needs
 returns : tie.Need-returns
 returns c =
     let a = c .before .before .before .before .before .before .args in
-    let l = repeated-length (now (a .m)) (a .end) 0 (a .t) (now (a .owner)) (now (a .key)) (c .before .before .before .before .before .before .pre .0) (c .before .before .before .before .before .before .pre .1) in
-    too-long (repeatedOctets (now (a .m)) (a .end) 0 (a .t) (now (a .owner)) (now (a .key))) (now (a .buf)) (omega arith)
+    let l = repeated-length (now (a .m)) (a .end) 1 0 (a .t) (now (a .owner)) (now (a .key)) (c .before .before .before .before .before .before .pre .0) (c .before .before .before .before .before .before .pre .1) in
+    too-long (repeatedOctets (now (a .m)) (a .end) 1 0 (a .t) (now (a .owner)) (now (a .key))) (now (a .buf)) (omega arith)
 
 returns-2 : tie.Need-returns-2
 returns-2 c =
     let a = c .before .before .before .before .before .before .before .args in
-    let l = repeated-length (now (a .m)) (a .end) 0 (a .t) (now (a .owner)) (now (a .key)) (c .before .before .before .before .before .before .before .pre .0) (c .before .before .before .before .before .before .before .pre .1) in
-    no-room (repeatedOctets (now (a .m)) (a .end) 0 (a .t) (now (a .owner)) (now (a .key))) (now (a .buf)) (omega arith)
+    let l = repeated-length (now (a .m)) (a .end) 1 0 (a .t) (now (a .owner)) (now (a .key)) (c .before .before .before .before .before .before .before .pre .0) (c .before .before .before .before .before .before .before .pre .1) in
+    no-room (repeatedOctets (now (a .m)) (a .end) 1 0 (a .t) (now (a .owner)) (now (a .key))) (now (a .buf)) (omega arith)
 
 repeated-into-requires : tie.Need-repeated-into-requires
 repeated-into-requires c κs = search needs

@@ -1,8 +1,9 @@
 -- `server::message` meets its contract. Assumes nothing.
-use mathlib.Core.Path.{sym, _∙_}
+use mathlib.Core.Path.{refl, sym, _∙_}
 use native.Mathlib.Omega.{arith}
 use borrow.Author.Tests.{not-false, not-true}
 use Rattle.outcomes.proofs.Laws.{first-table, enter-refused}
+use mathlib.Core.Path.{refl}
 use Rattle.server.proofs.Laws.{whole-refused}
 use borrow.Author.Needs.{needs}
 use Rattle.server.proofs.message.Statement.{statement}
@@ -19,7 +20,7 @@ same-length c = search needs
 
 returns : tie.Need-returns
 returns c =
-    whole-refused _ _ _ _ _ (enter-refused _ _ _ _ (first-table _ _ _ _ (c .before .before .rules-ok .ensures) (not-true _ (c .before .if1 .taken))) (λ z. omega (arith, z))) _ _ _ _ (λ z. omega (arith, z)) (c .refused .ensures)
+    whole-refused _ _ _ _ _ (enter-refused _ _ _ _ (first-table _ _ _ _ (c .before .before .rules-ok .ensures) (not-true _ (c .before .if1 .taken))) (λ z. omega (arith, z))) _ _ refl _ (λ z. omega (arith, z)) (c .refused .ensures)
 
 message-ruled-requires : tie.Need-message-ruled-requires
 message-ruled-requires c κs =

@@ -1,4 +1,5 @@
 -- `server::message_ruled` meets its contract. Assumes nothing.
+use mathlib.Core.Path.{refl}
 use Rattle.server.proofs.Laws.{whole-refused, whole-rest}
 use borrow.Author.Needs.{needs}
 use Rattle.server.proofs.message_ruled.Statement.{statement}
@@ -15,7 +16,7 @@ same-length c = search needs
 
 returns : tie.Need-returns
 returns c =
-    whole-refused _ _ _ _ _ (c .before .before .before .before .enter-ruled .ensures) _ _ _ _ (c .before .if1 .taken) (c .refused .ensures)
+    whole-refused _ _ _ _ _ (c .before .before .before .before .enter-ruled .ensures) _ _ refl _ (c .before .if1 .taken) (c .refused .ensures)
 
 message-passed-requires : tie.Need-message-passed-requires
 message-passed-requires c κs =
@@ -29,7 +30,7 @@ same-length-3 c = search needs
 
 returns-2 : tie.Need-returns-2
 returns-2 c =
-    whole-rest _ _ _ _ _ (c .before .before .before .before .before .before .before .before .before .before .enter-ruled .ensures) _ _ _ _ (c .before .before .before .before .before .before .before .if1 .left) (c .before .before .before .before .message-passed .ensures)
+    whole-rest _ _ _ _ _ (c .before .before .before .before .before .before .before .before .before .before .enter-ruled .ensures) _ _ refl _ (c .before .before .before .before .before .before .before .if1 .left) (c .before .before .before .before .message-passed .ensures)
 
 pub message-ruled-spec : {M : Type 1} → statement M
 message-ruled-spec =

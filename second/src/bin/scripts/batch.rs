@@ -18,6 +18,7 @@ pub struct Item {
     pub call: Call,
     pub message: Span,
     pub offer: Span,
+    pub record: Span,
     /// The message in parts, for its reply to be worked out.
     pub ask: Option<Ask>,
     /// None where the readers must only agree.
@@ -71,10 +72,12 @@ impl Batch {
     pub fn sends(&mut self, call: &Call, message: &[u8], want: Option<Want>) {
         let message = self.lay(message);
         let offer = self.lay(&call.offer);
+        let record = self.lay(&call.record);
         self.items.push(Item {
             call: call.clone(),
             message,
             offer,
+            record,
             ask: None,
             want,
         });

@@ -28,9 +28,9 @@ const CALLS: [(&str, &[u64]); 19] = [
     ("issue", &[0, 2, 3, 9, 13]),
     ("revoke", &[0, 2, 3, 9, 10]),
     ("look", &[0, 4, 6, 7]),
-    ("message", &[0, 2, 3, 4, 5, 6, 7, 8]),
+    ("message", &[0, 2, 3, 4, 5, 6, 7, 8, 19]),
     ("batch", &[0, 17]),
-    ("batch item", &[0, 2, 3, 4, 5, 6, 7, 8]),
+    ("batch item", &[0, 2, 3, 4, 5, 6, 7, 8, 19]),
     ("hold", &[0]),
     ("note", &[0]),
     ("renewal", &[0, 5, 6]),
@@ -44,7 +44,7 @@ const CALLS: [(&str, &[u64]); 19] = [
     ("remove", &[0, 4, 6, 8]),
 ];
 
-const OUTCOMES: [&str; 33] = [
+const OUTCOMES: [&str; 37] = [
     "list",
     "keys",
     "renewal due",
@@ -67,8 +67,12 @@ const OUTCOMES: [&str; 33] = [
     "tkey error 21",
     "success passed up",
     "success handed up unsigned",
-    "success renewal granted",
-    "success renewal replacing a waiting key",
+    "success renewal of mode 4097 granted",
+    "success renewal of mode 4097 replacing a waiting key",
+    "success renewal of mode 4098 granted",
+    "success renewal of mode 4098 replacing a waiting key",
+    "success renewal of mode 4099 granted",
+    "success renewal of mode 4099 replacing a waiting key",
     "renewal with times on both sides of 2^32",
     "renewal with times above 2^32",
     "success adoption",

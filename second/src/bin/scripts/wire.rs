@@ -9,7 +9,11 @@ pub const A: u16 = 1;
 pub const NULL: u16 = 10;
 
 pub const DELETE: u16 = 5;
-pub const RENEW: u16 = 4098;
+/// Renewals: by Diffie-Hellman, by server and by resolver assignment.
+pub const DIFFIE_HELLMAN: u16 = 4097;
+pub const BY_SERVER: u16 = 4098;
+pub const BY_RESOLVER: u16 = 4099;
+pub const RENEWALS: [u16; 3] = [DIFFIE_HELLMAN, BY_SERVER, BY_RESOLVER];
 pub const ADOPT: u16 = 4100;
 
 pub const QR: u16 = 0x8000;
@@ -131,6 +135,21 @@ impl Record {
             &self.data,
         ])
     }
+}
+
+/// 02 CR 10: exactly one record of type 25, its owner name not compressed and its data length
+/// right.
+pub fn is_key_record(octets: &[u8]) -> bool {
+    let mut at = 0;
+    while octets.get(at).is_some_and(|o| (1..64).contains(o)) {
+        at += 1 + octets[at] as usize;
+    }
+    let two = |at: usize| u16::from_be_bytes([octets[at], octets[at + 1]]);
+    octets.get(at) == Some(&0)
+        && at < 255
+        && octets.len() >= at + 11
+        && two(at + 1) == KEY
+        && octets.len() == at + 11 + usize::from(two(at + 9))
 }
 
 /// A length field that may be bent by `off`.
@@ -373,16 +392,30 @@ impl Ask {
         self.reply_start(rcode).finish()
     }
 
-    /// The reply that the papers ask for with this TKEY in the answer and this echo.
-    pub fn tkey_reply(&self, mut tkey: Tkey, error: u16, echo: Option<&Record>) -> Vec<u8> {
+    /// The reply that the papers ask for with this TKEY in the answer.
+    pub fn tkey_reply(&self, tkey: Tkey, error: u16) -> Vec<u8> {
+        self.tkey_answered(tkey, error).finish()
+    }
+
+    /// The same of a granted renewal, which echoes the KEY; behind the TKEY stands what is lent.
+    pub fn renewal_reply(&self, tkey: Tkey, lent: Option<&[u8]>) -> Vec<u8> {
+        let mut b = self.tkey_answered(tkey, 0);
+        if let Some(octets) = lent {
+            b.raw(octets);
+            b.bend_count(1, 1);
+        }
+        if let Some(key) = self.keys.first() {
+            b.record(3, key);
+        }
+        b.finish()
+    }
+
+    fn tkey_answered(&self, mut tkey: Tkey, error: u16) -> Builder {
         tkey.class = ANY;
         tkey.ttl = 0;
         tkey.error = error;
         let mut b = self.reply_start(0);
         b.record(1, &tkey.record());
-        if let Some(key) = echo {
-            b.record(3, key);
-        }
-        b.finish()
+        b
     }
 }

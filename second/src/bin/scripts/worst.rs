@@ -173,6 +173,8 @@ fn plain_call(time: u64) -> Call {
         good: true,
         offer: vec![7; 16],
         room: MAX_ROOM,
+        fits: false,
+        record: Vec::new(),
     }
 }
 

@@ -1,6 +1,6 @@
 //! The batch as a script line, held against its items called one by one.
 
-use super::{printed, Maker, LINE_LIMIT};
+use super::{printed, verdict, Maker, LINE_LIMIT};
 use crate::batch::{Answer, Batch, Item};
 use crate::desk::{Outcome, Table};
 use second::script::Runner;
@@ -29,14 +29,17 @@ impl Maker<'_> {
         let room = self.number(batch.room);
         let mut line = format!("batch {room} {}", self.hex(&batch.octets));
         for item in &batch.items {
-            let (message, offer) = (item.message, item.offer);
+            let (message, offer, record) = (item.message, item.offer, item.record);
             let words = [
                 self.number(item.call.time),
-                verdict(item).to_string(),
+                verdict(item.call.good).to_string(),
                 self.number(message.from),
                 self.number(message.size),
                 self.number(offer.from),
                 self.number(offer.size),
+                verdict(item.call.fits).to_string(),
+                self.number(record.from),
+                self.number(record.size),
             ];
             line = line + " " + &words.join(" ");
         }
@@ -102,18 +105,13 @@ impl Maker<'_> {
 
     fn call_alone(&mut self, batch: &Batch, item: &Item, room: u64) -> String {
         format!(
-            "message {} {} {} {room} {}",
+            "message {} {} {} {room} {} {} {}",
             item.call.time,
-            verdict(item),
+            verdict(item.call.good),
             self.hex(batch.part(item.offer)),
-            self.hex(batch.part(item.message))
+            self.hex(batch.part(item.message)),
+            verdict(item.call.fits),
+            self.hex(batch.part(item.record))
         )
-    }
-}
-
-fn verdict(item: &Item) -> &'static str {
-    match item.call.good {
-        true => "good",
-        false => "bad",
     }
 }

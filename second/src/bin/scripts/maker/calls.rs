@@ -1,6 +1,6 @@
 //! The calls as script lines, and the replies that the papers ask for.
 
-use super::{lower, Call, Maker, MAX_ROOM};
+use super::{lower, verdict, Call, Maker, MAX_ROOM};
 use crate::desk::{Outcome, Pair, Want};
 use crate::wire::{self, Ask, Tkey};
 
@@ -69,24 +69,55 @@ impl Maker<'_> {
     }
 
     pub fn send(&mut self, call: &Call, message: &[u8]) -> Outcome {
-        let line = format!(
+        let mut line = format!(
             "message {} {} {} {} {}",
             self.number(call.time),
-            if call.good { "good" } else { "bad" },
+            verdict(call.good),
             self.hex(&call.offer),
             self.number(call.room),
             self.hex(message)
         );
+        // The short line says the same.
+        let is_short = !call.fits && call.record.is_empty() && self.rng.chance(80);
+        if !is_short {
+            let record = self.hex(&call.record);
+            line += &format!(" {} {record}", verdict(call.fits));
+        }
         self.line(line.as_bytes())
     }
 
-    /// A good signature, an offer that will do, room for all.
+    /// A good signature, an offer that will do, room for all. The keying verdict and the record
+    /// are by lot: for a message that does not look at them.
     pub fn call(&mut self, time: u64) -> Call {
+        let (fits, record) = self.any_keying();
         Call {
             time,
             good: true,
             offer: self.rng.some_octets(1, 16),
             room: MAX_ROOM,
+            fits,
+            record,
+        }
+    }
+
+    /// The same with a KEY that fits and a record that will do.
+    pub fn fitting_call(&mut self, time: u64) -> Call {
+        Call {
+            fits: true,
+            record: self.right_record(),
+            ..self.call(time)
+        }
+    }
+
+    /// A call that gives a renewal of its mode what it needs.
+    pub fn call_for(&mut self, ask: &Ask, time: u64) -> Call {
+        match ask.tkey.as_ref().map(|t| t.mode) {
+            Some(wire::DIFFIE_HELLMAN) => self.fitting_call(time),
+            Some(wire::BY_RESOLVER) => Call {
+                fits: true,
+                ..self.call(time)
+            },
+            _ => self.call(time),
         }
     }
 
@@ -117,18 +148,21 @@ impl Maker<'_> {
             return Vec::new();
         };
         match (error, tkey.mode) {
-            (0, wire::RENEW) => {
+            (0, mode) if wire::RENEWALS.contains(&mode) => {
                 tkey.owner = wire::key_name(pair.next, &pair.suffix);
                 tkey.inception = call.time as u32;
                 tkey.expiration = (call.time + pair.life) as u32;
-                tkey.key = call.offer.clone();
-                ask.tkey_reply(tkey, 0, ask.keys.first())
+                if mode != wire::BY_RESOLVER {
+                    tkey.key = call.offer.clone();
+                }
+                let lent = (mode == wire::DIFFIE_HELLMAN).then_some(&call.record[..]);
+                ask.renewal_reply(tkey, lent)
             }
             (0, wire::ADOPT) if names_adopted(pair, &tkey) => {
                 tkey.other = Vec::new();
-                ask.tkey_reply(tkey, 0, None)
+                ask.tkey_reply(tkey, 0)
             }
-            _ => ask.tkey_reply(tkey, error, None),
+            _ => ask.tkey_reply(tkey, error),
         }
     }
 

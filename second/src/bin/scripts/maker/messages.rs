@@ -144,9 +144,15 @@ impl Maker<'_> {
         key
     }
 
+    /// A renewal of any of the three modes.
     pub fn renewal(&mut self, s: &Signer) -> Ask {
+        let mode = *self.rng.pick(&wire::RENEWALS);
+        self.renewal_of(s, mode)
+    }
+
+    pub fn renewal_of(&mut self, s: &Signer, mode: u16) -> Ask {
         let owner = self.question_name(s);
-        let mut ask = self.request(s, wire::RENEW, &owner);
+        let mut ask = self.request(s, mode, &owner);
         let key = self.key_record(s);
         ask.keys.push(key);
         let algorithm = self.rng.algorithm();

@@ -6,12 +6,14 @@ mod calls;
 mod eras;
 mod messages;
 mod notes;
+mod records;
 mod resolver;
 mod signing;
 mod states;
 
 pub use batches::MAX_BATCH_ROOM;
 pub use messages::{tkey, tsig};
+pub use records::{RIGHT_RECORDS, WRONG_RECORDS};
 pub use resolver::{Order, Reply, Wish};
 pub use signing::{Signing, MAX_SIGNING_ROOM};
 
@@ -35,6 +37,17 @@ pub struct Call {
     pub good: bool,
     pub offer: Vec<u8>,
     pub room: u64,
+    /// The keying verdict and the lent KEY record.
+    pub fits: bool,
+    pub record: Vec<u8>,
+}
+
+/// A verdict, as lines have it.
+pub fn verdict(good: bool) -> &'static str {
+    match good {
+        true => "good",
+        false => "bad",
+    }
 }
 
 /// An adopted key and a time at which to use it.

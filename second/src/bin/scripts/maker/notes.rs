@@ -33,7 +33,12 @@ impl Maker<'_> {
         if seen.number != 0 {
             self.check_refused(before, seen);
         }
-        self.check_place(seen, words[words.len() - 1].len() as u64 / 2);
+        let message = if call == "message" {
+            5
+        } else {
+            words.len() - 1
+        };
+        self.check_place(seen, words[message].len() as u64 / 2);
     }
 
     /// The resolver's lines.
@@ -206,9 +211,18 @@ impl Maker<'_> {
     fn note_success(&mut self, mode: u16, before: &Table, seen: &Outcome) {
         let was = before.pairs[seen.pair as usize - 1].clone();
         let is = self.pair(seen.pair).clone();
+        if wire::RENEWALS.contains(&mode) {
+            let way = match was.waiting {
+                None => "granted",
+                Some(_) => "replacing a waiting key",
+            };
+            self.hit(&format!("success renewal of mode {mode} {way}"));
+            if let Some(key) = &is.waiting {
+                self.note_wrap(key.inception, key.expiry);
+            }
+            return;
+        }
         let item = match (mode, was.waiting.is_some()) {
-            (wire::RENEW, false) => "success renewal granted",
-            (wire::RENEW, true) => "success renewal replacing a waiting key",
             (wire::ADOPT, _) if was.adopted != is.adopted => "success adoption",
             (wire::ADOPT, false) => "success re-adoption without a waiting key",
             (wire::ADOPT, true) => "success re-adoption with a waiting key",
@@ -217,9 +231,6 @@ impl Maker<'_> {
             (_, false) => "success deletion of the adopted key",
         };
         self.hit(item);
-        if let (wire::RENEW, Some(key)) = (mode, &is.waiting) {
-            self.note_wrap(key.inception, key.expiry);
-        }
     }
 
     /// The reply has these times modulo 2^32.

@@ -260,7 +260,7 @@ impl Maker<'_> {
             inception: wish.inception,
             expiration: wish.expiration,
         };
-        let tkey = order_tkey(&asked, wire::RENEW, old(self.adopted_key()));
+        let tkey = order_tkey(&asked, wire::BY_SERVER, old(self.adopted_key()));
         Order {
             kind: "renewal",
             id,

@@ -91,7 +91,7 @@ impl Maker<'_> {
 
     pub fn grant(&mut self, signer: &Signer) {
         let ask = self.renewal(signer);
-        let call = self.call(signer.time);
+        let call = self.call_for(&ask, signer.time);
         self.send(&call, &ask.octets());
     }
 

@@ -249,7 +249,7 @@ const STILL: [&str; 49] = [
 
 fn mode_of(kind: &str) -> u16 {
     match kind {
-        "renewal" => wire::RENEW,
+        "renewal" => wire::BY_SERVER,
         "adoption" => wire::ADOPT,
         _ => wire::DELETE,
     }

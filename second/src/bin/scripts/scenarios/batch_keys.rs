@@ -1,7 +1,7 @@
 //! Batches whose items change keys: of one pair, and of several; items that share octets; and
 //! batches by lot, and very large ones.
 
-use super::batches::{add_some, add_still, STILL};
+use super::batches::{add_some, add_still, set_offer, STILL};
 use super::damage::{mutate, MUTATIONS};
 use super::large::{ask_for_reply, padded, padding, MAX};
 use super::mixture::{any_request, REQUESTS};
@@ -64,10 +64,15 @@ impl<'m, 'a> Steps<'m, 'a> {
     /// A renewal that is granted, and the waiting key that it makes, the pair having made so
     /// many in this batch before.
     fn renew(&mut self, by: &Signer, made: u64) -> Signer {
+        let mode = *self.maker.rng.pick(&wire::RENEWALS);
+        self.renew_by(by, made, mode)
+    }
+
+    fn renew_by(&mut self, by: &Signer, made: u64, mode: u16) -> Signer {
         let algorithm = self.maker.rng.algorithm();
-        let mut ask = self.maker.renewal(by);
+        let mut ask = self.maker.renewal_of(by, mode);
         tkey(&mut ask).algorithm = wire::algorithm_name(algorithm);
-        let call = self.maker.call(by.time);
+        let call = self.maker.call_for(&ask, by.time);
         self.batch.asks(&call, &ask, Want::Tkey(0));
         Signer {
             serial: self.maker.pair(by.pair).next + made,
@@ -239,7 +244,9 @@ fn without_room(maker: &mut Maker, item: &str, old: &Signer) -> bool {
     let mut steps = Steps::new(maker);
     match item {
         "renewal without room, adoption" => {
-            let new = steps.renew(old, 0);
+            // The offer makes the reply long, so that the next one has room.
+            let mode = *steps.maker.rng.pick(&wire::RENEWALS[..2]);
+            let new = steps.renew_by(old, 0, mode);
             let offer = steps.maker.rng.octets(1024);
             steps.batch.last().offer = steps.batch.lay(&offer);
             steps.batch.last().call.offer = offer;
@@ -423,7 +430,7 @@ fn octets(maker: &mut Maker, item: &str) -> bool {
 /// A renewal that is granted, which shows its offer.
 fn add_renewal(maker: &mut Maker, batch: &mut Batch, key: &Signer) {
     let ask = maker.renewal(key);
-    let call = maker.call(key.time);
+    let call = maker.call_for(&ask, key.time);
     batch.asks(&call, &ask, Want::Tkey(0));
 }
 
@@ -459,8 +466,11 @@ fn share_offers(maker: &mut Maker, batch: &mut Batch, item: &str) {
         // The same key asks thrice, and each time a new one takes the waiting one's place.
         "one message, three offers" | "a renewal and the same octets again" => {
             let (message, ask) = (first, batch.items[0].ask.clone());
+            let (fits, record) = (batch.items[0].call.fits, batch.items[0].record);
+            let lent = batch.part(record).to_vec();
             for item in &mut batch.items {
-                (item.message, item.ask) = (message, ask.clone());
+                (item.message, item.ask, item.record) = (message, ask.clone(), record);
+                (item.call.fits, item.call.record) = (fits, lent.clone());
             }
         }
         _ => {}
@@ -493,19 +503,6 @@ fn share_offers(maker: &mut Maker, batch: &mut Batch, item: &str) {
     }
 }
 
-/// A renewal's outcome, by the offer alone.
-fn set_offer(batch: &mut Batch, place: usize, offer: Span) {
-    let octets = batch.part(offer).to_vec();
-    let item = &mut batch.items[place];
-    item.offer = offer;
-    item.want = Some(match octets.len() {
-        0 => Want::Tkey(2),
-        1..=1024 => Want::Tkey(0),
-        _ => Want::Refused(5),
-    });
-    item.call.offer = octets;
-}
-
 /// An unsigned message whose last record's data is the next message or begins it.
 fn shared(maker: &mut Maker, item: &str, keys: &[Signer]) -> bool {
     let mut batch = Batch::new(MAX_BATCH_ROOM);
@@ -524,6 +521,7 @@ fn shared(maker: &mut Maker, item: &str, keys: &[Signer]) -> bool {
     batch.octets = joined(&[&outer_octets, &inner[common..]]);
     batch.items[0].message.from += place;
     batch.items[0].offer.from += place;
+    batch.items[0].record.from += place;
     let call = maker.call(keys[1].time);
     batch.asks(&call, &outer, Want::Handed);
     batch.last().message = Span {
@@ -569,10 +567,11 @@ fn batch_mixture(maker: &mut Maker, item: &str) -> bool {
     maker.batch(&batch)
 }
 
-/// Some messages and offers stand elsewhere, inside all the same.
+/// Some messages, offers and records stand elsewhere, inside all the same.
 fn lay_by_lot(maker: &mut Maker, batch: &mut Batch) {
     let end = batch.octets.len() as u64;
     let spans: Vec<Span> = batch.items.iter().map(|item| item.message).collect();
+    let records: Vec<Span> = batch.items.iter().map(|item| item.record).collect();
     for item in &mut batch.items {
         if maker.rng.chance(20) {
             item.message = *maker.rng.pick(&spans);
@@ -585,12 +584,18 @@ fn lay_by_lot(maker: &mut Maker, batch: &mut Batch) {
             let size = maker.rng.within(0, (end - from).min(1100));
             item.offer = Span { from, size };
         }
+        if maker.rng.chance(20) {
+            item.record = *maker.rng.pick(&records);
+        }
+        if maker.rng.chance(10) {
+            item.record.size = item.record.size.saturating_sub(1);
+        }
     }
 }
 
 const LARGE: [&str; 17] = [
     "64 pairs",
-    "14000 items",
+    "9000 items",
     "line of 200000 octets",
     "line of 200001 octets",
     "message of 65535",
@@ -615,7 +620,7 @@ fn large(maker: &mut Maker, item: &str) -> bool {
             let item = *maker.rng.pick(&["all pass", "all renew"]);
             all_pairs(maker, item)
         }
-        "14000 items" => many_items(maker),
+        "9000 items" => many_items(maker),
         _ if item.starts_with("line") => long_line(maker, item),
         _ if item.starts_with("replies of") => large_replies(maker, item),
         _ => large_message(maker, item),
@@ -624,7 +629,7 @@ fn large(maker: &mut Maker, item: &str) -> bool {
 
 /// Far more than a batch may have, in a line that holds hardly more.
 fn many_items(maker: &mut Maker) -> bool {
-    let items = " 0 bad 0 0 0 0".repeat(14_000);
+    let items = " 0 bad 0 0 0 0 bad 0 0".repeat(9_000);
     maker.batch_line(&format!("batch 9 -{items}")) == Answer::Refused(17)
 }
 

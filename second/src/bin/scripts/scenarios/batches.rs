@@ -18,14 +18,14 @@ pub fn groups() -> Vec<Group> {
         },
         Group {
             name: "batch's span",
-            weight: 24,
+            weight: 34,
             items: spans,
             run: span,
         },
         Group {
             name: "batch's precedence",
-            weight: 3,
-            items: || cross(&["65 items", "message outside", "offer outside"], &REFUSALS),
+            weight: 5,
+            items: || cross(&FAULTS, &REFUSALS),
             run: precedence,
         },
         Group {
@@ -42,7 +42,7 @@ pub fn groups() -> Vec<Group> {
         },
         Group {
             name: "batch's room",
-            weight: 16,
+            weight: 20,
             items: || cross(&KINDS, &ROOMS),
             run: room,
         },
@@ -214,7 +214,7 @@ const OUTSIDE: [&str; 18] = [
 ];
 
 fn spans() -> Vec<String> {
-    let parts = ["message", "offer"];
+    let parts = ["message", "offer", "record"];
     let mut all = Vec::new();
     for place in PLACES {
         for part in parts {
@@ -226,7 +226,8 @@ fn spans() -> Vec<String> {
     all
 }
 
-/// A renewal, which shows its offer, with one of its spans bent, among others.
+/// A renewal, which shows its offer and, by Diffie-Hellman, its record, with one of its spans
+/// bent, among others.
 fn span(maker: &mut Maker, item: &str) -> bool {
     let (bent, way) = two_words(item);
     let (part, place) = bent.split_once(' ').expect("two words");
@@ -239,8 +240,11 @@ fn span(maker: &mut Maker, item: &str) -> bool {
         let count = maker.rng.within(1, 3);
         add_some(maker, &mut batch, &keys, count);
     }
-    let ask = maker.renewal(&renewing);
-    let call = maker.call(renewing.time);
+    let ask = match part {
+        "record" => maker.renewal_of(&renewing, wire::DIFFIE_HELLMAN),
+        _ => maker.renewal(&renewing),
+    };
+    let call = maker.call_for(&ask, renewing.time);
     let bent = batch.items.len();
     batch.asks(&call, &ask, Want::Tkey(0));
     if after {
@@ -249,6 +253,7 @@ fn span(maker: &mut Maker, item: &str) -> bool {
     }
     match part {
         "message" => bend_message(&mut batch, bent, way),
+        "record" => bend_record(&mut batch, bent, way),
         _ => bend_offer(&mut batch, bent, way),
     }
     match INSIDE.contains(&way) {
@@ -285,14 +290,49 @@ fn bend_offer(batch: &mut Batch, place: usize, way: &str) {
     if !INSIDE.contains(&way) {
         return;
     }
-    let offer = batch.part(span).to_vec();
+    set_offer(batch, place, span);
+}
+
+/// A renewal's outcome, by the offer alone.
+pub fn set_offer(batch: &mut Batch, place: usize, offer: Span) {
+    let octets = batch.part(offer).to_vec();
     let item = &mut batch.items[place];
-    item.want = match offer.len() {
-        0 => Some(Want::Tkey(2)),
-        1..=1024 => Some(Want::Tkey(0)),
-        _ => Some(Want::Refused(5)),
+    let mode = item
+        .ask
+        .as_ref()
+        .and_then(|a| a.tkey.as_ref())
+        .map(|t| t.mode);
+    item.offer = offer;
+    item.want = Some(match octets.len() {
+        0 if mode != Some(wire::BY_RESOLVER) => Want::Tkey(2),
+        0..=1024 => Want::Tkey(0),
+        _ => Want::Refused(5),
+    });
+    item.call.offer = octets;
+}
+
+fn bend_record(batch: &mut Batch, place: usize, way: &str) {
+    let octets = batch.part(batch.items[place].record).to_vec();
+    let span = match way {
+        "ends at the end" => batch.lay(&octets),
+        _ => bent_span(batch, batch.items[place].record, way),
     };
-    item.call.offer = offer;
+    batch.items[place].record = span;
+    if INSIDE.contains(&way) {
+        set_record(batch, place, span);
+    }
+}
+
+/// The outcome of a renewal by Diffie-Hellman, by the record alone.
+pub fn set_record(batch: &mut Batch, place: usize, record: Span) {
+    let octets = batch.part(record).to_vec();
+    let item = &mut batch.items[place];
+    item.record = record;
+    item.want = Some(match wire::is_key_record(&octets) {
+        true => Want::Tkey(0),
+        false => Want::Refused(19),
+    });
+    item.call.record = octets;
 }
 
 fn bent_span(batch: &Batch, span: Span, way: &str) -> Span {
@@ -326,11 +366,22 @@ fn bent_span(batch: &Batch, span: Span, way: &str) -> Span {
 }
 
 /// What refuses a message, with its number.
-const REFUSALS: [&str; 7] = [
-    "TIME", "CLOCK", "SIZE", "OFFER", "FORMAT", "NOTQUERY", "ROOM",
+const REFUSALS: [&str; 8] = [
+    "TIME", "CLOCK", "SIZE", "OFFER", "FORMAT", "NOTQUERY", "ROOM", "KEYREC",
+];
+
+/// What refuses the whole.
+const FAULTS: [&str; 4] = [
+    "65 items",
+    "message outside",
+    "offer outside",
+    "record outside",
 ];
 
 fn number(refusal: &str) -> u64 {
+    if refusal == "KEYREC" {
+        return 19;
+    }
     let place = REFUSALS.iter().position(|r| *r == refusal);
     2 + place.expect("a refusal") as u64
 }
@@ -338,8 +389,12 @@ fn number(refusal: &str) -> u64 {
 /// Puts a message into a batch that is refused so. For ROOM the batch has not even a header's.
 fn add_refused(maker: &mut Maker, batch: &mut Batch, s: &Signer, refusal: &str) {
     let mut call = maker.call(s.time);
-    let mut ask = maker.ordinary(s);
+    let mut ask = match refusal {
+        "KEYREC" => maker.renewal_of(s, wire::DIFFIE_HELLMAN),
+        _ => maker.ordinary(s),
+    };
     match refusal {
+        "KEYREC" => (call.fits, call.record) = (true, maker.wrong_record()),
         "TIME" => call.time = *maker.rng.pick(&[TOP, TOP + 1, u64::MAX]),
         "CLOCK" => call.time = maker.rng.below(maker.table.clock),
         "OFFER" => call.offer = maker.rng.octets(1025),
@@ -383,6 +438,7 @@ fn precedence(maker: &mut Maker, item: &str) -> bool {
     match fault {
         "message outside" => batch.items[place].message = outside,
         "offer outside" => batch.items[place].offer = outside,
+        "record outside" => batch.items[place].record = outside,
         _ => {}
     }
     maker.refuses_batch(&batch)
@@ -475,7 +531,7 @@ fn room(maker: &mut Maker, item: &str) -> bool {
     let mut batch = Batch::default();
     let mut add = |maker: &mut Maker, mut ask: Ask, name: &[u8], want: Want| {
         ask.questions[0].name = name.to_vec();
-        let mut call = maker.call(s.time);
+        let mut call = maker.call_for(&ask, s.time);
         call.good = want != Want::BadSig;
         batch.asks(&call, &ask, want);
         maker.due_reply(&call, &ask, want).len() as u64
@@ -652,7 +708,7 @@ fn edge(maker: &mut Maker, item: &str) -> bool {
 fn add_renewals(maker: &mut Maker, batch: &mut Batch, s: &Signer) {
     for late in [0, 1, 1, 4] {
         let ask = maker.renewal(&s.at(s.time + late));
-        let call = maker.call(s.time + late);
+        let call = maker.call_for(&ask, s.time + late);
         batch.asks(&call, &ask, Want::Tkey(0));
     }
     let ask = maker.ordinary(&s.at(s.time + 4));

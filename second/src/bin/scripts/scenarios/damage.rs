@@ -108,9 +108,10 @@ fn cut_tsig_data(maker: &mut Maker, s: &Signer) -> bool {
 }
 
 fn cut_tkey_data(maker: &mut Maker, s: &Signer) -> bool {
-    let mode = *maker.rng.pick(&[wire::RENEW, wire::ADOPT, wire::DELETE, 3]);
     let mut ask = maker.renewal(s);
-    tkey(&mut ask).mode = mode;
+    if maker.rng.chance(50) {
+        tkey(&mut ask).mode = *maker.rng.pick(&[wire::ADOPT, wire::DELETE, 3]);
+    }
     let whole = ask.tkey.take().expect("a TKEY").record();
     let call = maker.call(s.time);
     (0..whole.data.len()).all(|length| {
@@ -272,7 +273,8 @@ fn mutation(maker: &mut Maker, item: &str) -> bool {
         _ => maker.revoked(),
     };
     let kind = *maker.rng.pick(&KINDS);
-    let mut octets = valid(maker, &s, kind).octets();
+    let ask = valid(maker, &s, kind);
+    let mut octets = ask.octets();
     for _ in 0..maker.rng.within(1, 4) {
         let change = match change {
             "several" => *maker.rng.pick(&MUTATIONS),
@@ -283,7 +285,7 @@ fn mutation(maker: &mut Maker, item: &str) -> bool {
     if way == "look" {
         return !maker.look(&octets).bad;
     }
-    let mut call = maker.call(s.time);
+    let mut call = maker.call_for(&ask, s.time);
     call.good = maker.rng.chance(90);
     if maker.rng.chance(20) {
         call.room = maker.rng.below(300);

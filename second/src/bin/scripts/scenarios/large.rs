@@ -9,7 +9,7 @@ use crate::wire::{self, label, name, name_of, pointer, record, Ask};
 pub fn groups() -> Vec<Group> {
     vec![Group {
         name: "large",
-        weight: 4,
+        weight: 5,
         items: || list(&[&LARGE[..], &signing::LARGE].concat()),
         run: large,
     }]
@@ -17,7 +17,7 @@ pub fn groups() -> Vec<Group> {
 
 pub const MAX: usize = 65_535;
 
-const LARGE: [&str; 23] = [
+const LARGE: [&str; 30] = [
     "signed message of 65535",
     "signed message of 65536",
     "unsigned message of 65535",
@@ -29,6 +29,13 @@ const LARGE: [&str; 23] = [
     "renewal, reply of 65534",
     "renewal, reply of 65535",
     "renewal, reply of 65536",
+    "4097, reply of 65534",
+    "4097, reply of 65535",
+    "4097, reply of 65536",
+    "4097, record of 65800",
+    "4097, record of 65801",
+    "4099, reply of 65535",
+    "4099, reply of 65536",
     "TKEY error, reply of 65535",
     "TKEY error, reply of 65536",
     "adoption, reply of 65536",
@@ -62,6 +69,7 @@ fn large(maker: &mut Maker, item: &str) -> bool {
         "line of 262148 octets, list at its end" => list_at_end(maker, (1 << 18) + 4),
         _ if item.starts_with("line") => long_line(maker, item),
         "renewal of 65535" => large_renewal(maker, &s),
+        _ if item.contains("record of") => large_record(maker, &s, size),
         _ if item.contains("reply of") => large_reply(maker, &s, item, size),
         _ => large_message(maker, &s, item, size),
     }
@@ -108,7 +116,7 @@ fn large_renewal(maker: &mut Maker, s: &Signer) -> bool {
     ask.keys[0].data.clear();
     let missing = MAX - ask.octets().len();
     ask.keys[0].data = padding(missing);
-    let call = maker.call(s.time);
+    let call = maker.call_for(&ask, s.time);
     let room = maker.due_reply(&call, &ask, Want::Tkey(0)).len() <= MAX;
     maker.asks(
         &call,
@@ -119,6 +127,20 @@ fn large_renewal(maker: &mut Maker, s: &Signer) -> bool {
             Want::Refused(8)
         },
     )
+}
+
+/// The longest record that there is has no room in a reply; one octet more is no record.
+fn large_record(maker: &mut Maker, s: &Signer, size: usize) -> bool {
+    let ask = maker.renewal_of(s, wire::DIFFIE_HELLMAN);
+    let mut call = maker.call_for(&ask, s.time);
+    let longest = record(&name_of(255), wire::KEY, wire::IN, &padding(MAX));
+    call.record = longest.octets();
+    call.record.resize(size, 0);
+    let want = match size > longest.octets().len() {
+        true => Want::Refused(19),
+        false => Want::Refused(8),
+    };
+    maker.asks(&call, &ask, want)
 }
 
 fn large_reply(maker: &mut Maker, s: &Signer, item: &str, size: usize) -> bool {
@@ -133,7 +155,9 @@ fn large_reply(maker: &mut Maker, s: &Signer, item: &str, size: usize) -> bool {
 pub fn ask_for_reply(maker: &mut Maker, s: &Signer, kind: &str, size: usize) -> (Call, Ask, Want) {
     let question = name_of(255);
     let (mut ask, want) = match kind {
-        "renewal" => (maker.renewal(s), Want::Tkey(0)),
+        "renewal" => (maker.renewal_of(s, wire::BY_SERVER), Want::Tkey(0)),
+        "4097" => (maker.renewal_of(s, wire::DIFFIE_HELLMAN), Want::Tkey(0)),
+        "4099" => (maker.renewal_of(s, wire::BY_RESOLVER), Want::Tkey(0)),
         "adoption" => (maker.adoption(s, &question, 256), Want::Tkey(20)),
         "deletion" => (maker.deletion(s, &question), Want::Tkey(20)),
         _ => (maker.request(s, 3, &question), Want::Tkey(19)),
@@ -144,13 +168,18 @@ pub fn ask_for_reply(maker: &mut Maker, s: &Signer, kind: &str, size: usize) -> 
     if let Some(key) = ask.keys.first_mut() {
         key.owner = question;
     }
-    let mut call = maker.call(s.time);
+    let mut call = maker.call_for(&ask, s.time);
     call.offer = maker.rng.octets(1024);
     call.room = 70_000;
     let missing = size - maker.due_reply(&call, &ask, want).len();
-    match ask.keys.first_mut() {
-        Some(key) => key.data.extend(padding(missing)),
-        None => tkey(&mut ask).key.extend(padding(missing)),
+    match (kind, ask.keys.first_mut()) {
+        ("4097", _) => {
+            let lent = record(&[0], wire::KEY, wire::IN, &[]).octets();
+            let missing = missing + call.record.len() - lent.len();
+            call.record = record(&[0], wire::KEY, wire::IN, &padding(missing)).octets();
+        }
+        ("renewal", Some(key)) => key.data.extend(padding(missing)),
+        _ => tkey(&mut ask).key.extend(padding(missing)),
     }
     let want = if size > MAX { Want::Refused(8) } else { want };
     (call, ask, want)

@@ -2,9 +2,11 @@
 
 use super::{cross, list, two_words, Group};
 use crate::batch::Answer;
-use crate::maker::Maker;
+use crate::desk::Want;
+use crate::maker::{Maker, Signer};
 use crate::resolver::Said;
 use crate::signing::Told;
+use crate::wire;
 
 pub fn groups() -> Vec<Group> {
     vec![
@@ -46,7 +48,7 @@ pub fn groups() -> Vec<Group> {
         },
         Group {
             name: "batch's bad line",
-            weight: 6,
+            weight: 8,
             items: batches_bad_items,
             run: batches_bad,
         },
@@ -59,7 +61,7 @@ pub fn groups() -> Vec<Group> {
     ]
 }
 
-const BAD: [&str; 54] = [
+const BAD: [&str; 65] = [
     "empty",
     "one space",
     "unknown word",
@@ -79,12 +81,14 @@ const BAD: [&str; 54] = [
     "missing word in revoke",
     "missing word in look",
     "missing word in message",
+    "missing word in long message",
     "extra word in new",
     "extra word in enrol",
     "extra word in issue",
     "extra word in revoke",
     "extra word in look",
     "extra word in message",
+    "extra word in long message",
     "extra word in list",
     "list and a space",
     "list and a carriage return",
@@ -111,6 +115,15 @@ const BAD: [&str; 54] = [
     "verdict missing",
     "verdict a number",
     "room 2^64",
+    "keying verdict in capitals",
+    "keying verdict a number",
+    "keying verdict a dash",
+    "keying verdict missing",
+    "record odd",
+    "record of one digit",
+    "record a bad digit",
+    "record missing",
+    "record before its verdict",
     "algorithm by name",
     "pair with minus",
     "words in another order",
@@ -131,6 +144,12 @@ fn good(maker: &mut Maker, call: &str) -> String {
             let hex = maker.hex(&octets);
             match call {
                 "look" => format!("look {hex}"),
+                "long message" => {
+                    format!(
+                        "message {} good 0a0b 512 {hex} bad 0000190001000000000000",
+                        s.time
+                    )
+                }
                 _ => format!("message {} good 0a0b 512 {hex}", s.time),
             }
         }
@@ -234,6 +253,18 @@ fn bad_message(maker: &mut Maker, item: &str) -> Vec<u8> {
         "verdict missing" => format!("message {time}  - 512 {header}"),
         "verdict a number" => format!("message {time} 1 - 512 {header}"),
         "room 2^64" => format!("message {time} bad - 18446744073709551616 {header}"),
+        "keying verdict in capitals" => {
+            let verdict = maker.rng.pick(&["Good", "BAD", "GOOD", "baD"]);
+            format!("message {time} good - 512 {header} {verdict} -")
+        }
+        "keying verdict a number" => format!("message {time} good - 512 {header} 1 -"),
+        "keying verdict a dash" => format!("message {time} good - 512 {header} - -"),
+        "keying verdict missing" => format!("message {time} good - 512 {header}  -"),
+        "record odd" => format!("message {time} good - 512 {header} good 000"),
+        "record of one digit" => format!("message {time} good - 512 {header} good 0"),
+        "record a bad digit" => format!("message {time} good - 512 {header} bad 0g"),
+        "record missing" => format!("message {time} good - 512 {header} good "),
+        "record before its verdict" => format!("message {time} good - 512 {header} 00 good"),
         "algorithm by name" => format!("issue {time} 1 hmac-sha256"),
         "pair with minus" => format!("revoke {time} -1"),
         _ => format!("message good {time} - 512 {header}"),
@@ -241,7 +272,7 @@ fn bad_message(maker: &mut Maker, item: &str) -> Vec<u8> {
     line.into()
 }
 
-const ODD: [&str; 9] = [
+const ODD: [&str; 12] = [
     "capitals in hex",
     "both cases in hex",
     "leading zeros",
@@ -251,6 +282,9 @@ const ODD: [&str; 9] = [
     "no offer",
     "no message",
     "no suffix",
+    "long line of a message",
+    "no record",
+    "short line as the long one",
 ];
 
 /// Lines that read, whatever the call says then.
@@ -276,9 +310,25 @@ fn odd(maker: &mut Maker, item: &str) -> bool {
         "room 2^64 - 1" => format!("message {at} good - {} {hex}", u64::MAX),
         "no offer" => format!("message {at} bad - 512 {hex}"),
         "no message" => format!("message {at} good - 512 -"),
+        "long line of a message" => format!("message {at} good 0A 512 {hex} good aBcD"),
+        "no record" => format!("message {at} good - 512 {hex} good -"),
+        "short line as the long one" => return short_as_long(maker, &s),
         _ => format!("enrol {at} - 600 400 256"),
     };
     maker.line(line.as_bytes()).is_call()
+}
+
+/// A renewal by Diffie-Hellman, whose KEY then does not fit.
+fn short_as_long(maker: &mut Maker, s: &Signer) -> bool {
+    let ask = maker.renewal_of(s, wire::DIFFIE_HELLMAN);
+    let line = format!(
+        "message {} good 0a 512 {}",
+        s.time,
+        maker.hex(&ask.octets())
+    );
+    let short = maker.line(line.as_bytes());
+    let long = maker.line((line + " bad -").as_bytes());
+    Want::Tkey(17).fits(&short) && short == long
 }
 
 const RESOLVERS_BAD: [&str; 57] = [
@@ -647,7 +697,7 @@ fn signings_odd(maker: &mut Maker, item: &str) -> bool {
     }
 }
 
-const BATCHES_BAD: [&str; 20] = [
+const BATCHES_BAD: [&str; 25] = [
     "no words",
     "ROOM alone",
     "1 word left over",
@@ -655,6 +705,11 @@ const BATCHES_BAD: [&str; 20] = [
     "3 words left over",
     "4 words left over",
     "5 words left over",
+    "6 words left over",
+    "7 words left over",
+    "8 words left over",
+    "items of six words",
+    "three items of six words",
     "leading space",
     "trailing space",
     "trailing space and no items",
@@ -671,7 +726,7 @@ const BATCHES_BAD: [&str; 20] = [
 ];
 
 /// By word of the line; those of an item after OCTETS.
-const BATCH_WORDS: [(&str, &[&str]); 8] = [
+const BATCH_WORDS: [(&str, &[&str]); 11] = [
     ("ROOM", &["2^64", "a dash", "empty", "with plus"]),
     ("OCTETS", &["odd", "empty", "a bad digit", "two dashes"]),
     ("TIME", &["2^64", "a dash", "empty", "with minus"]),
@@ -680,6 +735,9 @@ const BATCH_WORDS: [(&str, &[&str]); 8] = [
     ("SIZE", &["2^64", "a dash", "empty", "in hexadecimal"]),
     ("OFFERFROM", &["2^64", "a dash", "empty", "with plus"]),
     ("OFFERSIZE", &["2^64", "a dash", "empty", "with a letter"]),
+    ("keying", &["in capitals", "a number", "empty", "a dash"]),
+    ("RECORDFROM", &["2^64", "a dash", "empty", "with minus"]),
+    ("RECORDSIZE", &["2^64", "a dash", "empty", "with a letter"]),
 ];
 
 fn batches_bad_items() -> Vec<String> {
@@ -692,7 +750,7 @@ fn batches_bad_items() -> Vec<String> {
 
 /// An item that reads, at the table's clock.
 fn batch_item(maker: &Maker) -> String {
-    format!("{} good 0 12 3 4", maker.table.clock)
+    format!("{} good 0 12 3 4 bad 5 6", maker.table.clock)
 }
 
 const BATCH_START: &str = "batch 512 000a00000000000000000000";
@@ -708,7 +766,8 @@ fn batches_bad(maker: &mut Maker, item: &str) -> bool {
 }
 
 fn batches_bad_line(maker: &mut Maker, item: &str) -> String {
-    let one = format!("{} good 0 12 3 4", maker.table.clock + 1);
+    let six = format!("{} good 0 12 3 4", maker.table.clock + 1);
+    let one = format!("{six} bad 5 6");
     let items = maker.rng.within(1, 3) as usize;
     let line = BATCH_START.to_string() + &format!(" {one}").repeat(items);
     match item {
@@ -727,6 +786,12 @@ fn batches_bad_line(maker: &mut Maker, item: &str) -> String {
         "the 66th does not read" => with_last_bad(&one, 65),
         "item before the octets" => format!("batch 512 {one} 000a00000000000000000000"),
         "items parted by commas" => format!("{line}, {one}"),
+        "items of six words" => {
+            let count = *maker.rng.pick(&[1, 2, 4, 5]);
+            BATCH_START.to_string() + &format!(" {six}").repeat(count)
+        }
+        // As many words as two items have.
+        "three items of six words" => BATCH_START.to_string() + &format!(" {six}").repeat(3),
         _ => {
             let count = item.split(' ').next().and_then(|word| word.parse().ok());
             let words: Vec<&str> = one.split(' ').collect();
@@ -738,7 +803,7 @@ fn batches_bad_line(maker: &mut Maker, item: &str) -> String {
 /// That there are too many is said of a line that reads.
 fn with_last_bad(item: &str, before: usize) -> String {
     format!(
-        "{BATCH_START}{} 0 good 0 0 0 x",
+        "{BATCH_START}{} 0 good 0 0 0 0 bad 0 x",
         format!(" {item}").repeat(before)
     )
 }
@@ -761,12 +826,12 @@ fn batches_bad_word(maker: &mut Maker, item: &str) -> String {
     };
     let place = BATCH_WORDS.iter().position(|(word, _)| *word == name);
     let place = 1 + place.expect("a word of the line");
-    let later = format!(" {} good 0 12 3 4", maker.table.clock + 1);
+    let later = format!(" {} good 0 12 3 4 good 5 6", maker.table.clock + 1);
     let line = BATCH_START.to_string() + &later.repeat(3);
     let mut words: Vec<&str> = line.split(' ').collect();
     // Any of the three items, for a word of an item.
     let skipped = match place > 2 {
-        true => 6 * maker.rng.below(3) as usize,
+        true => 9 * maker.rng.below(3) as usize,
         false => 0,
     };
     words[place + skipped] = word;
@@ -794,12 +859,13 @@ fn batches_odd(maker: &mut Maker, item: &str) -> bool {
         "no octets and no items" => told("batch 0 -") == Answer::Done(Vec::new()),
         "octets and no items" => told(BATCH_START) == Answer::Done(Vec::new()),
         "no octets and an item" => {
-            numbers(told(&format!("batch 0 - {clock} bad 0 0 0 0"))) == [4]
+            numbers(told(&format!("batch 0 - {clock} bad 0 0 0 0 good 0 0"))) == [4]
                 && told(&format!("batch 0 - {one}")) == Answer::Refused(17)
         }
         "leading zeros" => {
             let octets = "000a00000000000000000000";
-            let zeros = format!("{clock:0>40} good 000 0000000000000000000000012 03 00004");
+            let zeros =
+                format!("{clock:0>40} good 000 0000000000000000000000012 03 00004 bad 00 01");
             numbers(told(&format!("batch 000512 {octets} {zeros} {one}"))) == [0, 0]
         }
         "capitals in hex" => {
@@ -808,8 +874,8 @@ fn batches_odd(maker: &mut Maker, item: &str) -> bool {
         }
         _ => {
             let most = u64::MAX;
-            let item = format!("{most} good {most} {most} {most} {most}");
-            let late = format!("batch {most} 00 {most} good 0 0 0 0");
+            let item = format!("{most} good {most} {most} {most} {most} good {most} {most}");
+            let late = format!("batch {most} 00 {most} good 0 0 0 0 good 1 0");
             told(&format!("batch {most} 00 {item}")) == Answer::Refused(17)
                 && numbers(told(&late)) == [2]
         }

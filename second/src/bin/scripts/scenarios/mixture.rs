@@ -44,7 +44,10 @@ pub fn any_request(maker: &mut Maker, pair: u64, time: u64, kind: &str) -> (Call
         "adoption" => maker.request(&s, wire::ADOPT, &[0]),
         "deletion" => maker.request(&s, wire::DELETE, &[0]),
         _ => {
-            let mode = maker.rng.next() as u16;
+            let mode = match maker.rng.chance(50) {
+                true => maker.rng.within(4096, 4101) as u16,
+                false => maker.rng.next() as u16,
+            };
             maker.request(&s, mode, &[0])
         }
     };
@@ -52,8 +55,11 @@ pub fn any_request(maker: &mut Maker, pair: u64, time: u64, kind: &str) -> (Call
         mix_tkey(maker, &s, &mut ask);
     }
     mix_tsig(maker, &mut ask);
-    let mut call = maker.call(time);
+    let mut call = maker.call_for(&ask, time);
     call.good = maker.rng.chance(95);
+    if maker.rng.chance(10) {
+        (call.fits, call.record) = maker.any_keying();
+    }
     if maker.rng.chance(5) {
         call.offer.clear();
     }

@@ -6,6 +6,7 @@ mod batch_keys;
 mod batches;
 mod damage;
 mod exchange;
+mod keying;
 mod large;
 mod lines;
 mod mixture;
@@ -89,6 +90,7 @@ pub fn groups() -> Vec<Group> {
     all.extend(places::groups());
     all.extend(tsigs::groups());
     all.extend(tkeys::groups());
+    all.extend(keying::groups());
     all.extend(rooms::groups());
     all.extend(large::groups());
     all.extend(lines::groups());

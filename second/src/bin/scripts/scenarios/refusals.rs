@@ -21,8 +21,8 @@ pub fn groups() -> Vec<Group> {
         },
         Group {
             name: "offer",
-            weight: 12,
-            items: || cross(&["renewal", "ordinary"], &OFFERS),
+            weight: 20,
+            items: || cross(&["4097", "4098", "4099", "ordinary"], &OFFERS),
             run: offer,
         },
         Group {
@@ -229,12 +229,16 @@ fn offer(maker: &mut Maker, item: &str) -> bool {
     let (kind, length) = two_words(item);
     let length: u64 = length.parse().expect("a length");
     let s = maker.live();
-    let (ask, want) = match (kind, length) {
-        ("renewal", 0) => (maker.renewal(&s), Want::Tkey(2)),
-        ("renewal", _) => (maker.renewal(&s), Want::Tkey(0)),
-        _ => (maker.ordinary(&s), Want::Passed(0)),
+    let (ask, want) = match kind {
+        "ordinary" => (maker.ordinary(&s), Want::Passed(0)),
+        mode => {
+            let mode = mode.parse().expect("a mode");
+            let lacks = length == 0 && mode != wire::BY_RESOLVER;
+            let error = if lacks { 2 } else { 0 };
+            (maker.renewal_of(&s, mode), Want::Tkey(error))
+        }
     };
-    let mut call = maker.call(s.time);
+    let mut call = maker.call_for(&ask, s.time);
     call.offer = maker.rng.octets(length);
     let want = if length > 1024 {
         Want::Refused(5)

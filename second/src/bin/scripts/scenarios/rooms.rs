@@ -3,7 +3,7 @@
 use super::{cross, room_for, two_words, Group, ROOMS};
 use crate::desk::Want;
 use crate::maker::{tsig, Maker, Signer};
-use crate::wire::{key_name, Ask};
+use crate::wire::{self, key_name, Ask};
 
 pub fn groups() -> Vec<Group> {
     vec![Group {
@@ -14,14 +14,16 @@ pub fn groups() -> Vec<Group> {
     }]
 }
 
-pub const KINDS: [&str; 11] = [
+pub const KINDS: [&str; 13] = [
     "ill formed TSIG",
     "unsigned TKEY request",
     "BADKEY",
     "BADSIG",
     "PartialRevoke",
     "TKEY error",
-    "renewal",
+    "renewal 4097",
+    "renewal 4098",
+    "renewal 4099",
     "adoption",
     "re-adoption",
     "deletion",
@@ -37,7 +39,9 @@ pub fn ask_for(maker: &mut Maker, kind: &str) -> (Signer, Ask, Want) {
     };
     let mut ask = match kind {
         "TKEY error" | "unsigned TKEY request" => maker.request(&s, 2, &s.name()),
-        "renewal" => maker.renewal(&s),
+        "renewal 4097" => maker.renewal_of(&s, wire::DIFFIE_HELLMAN),
+        "renewal 4098" => maker.renewal_of(&s, wire::BY_SERVER),
+        "renewal 4099" => maker.renewal_of(&s, wire::BY_RESOLVER),
         "adoption" => {
             let key = maker.pair(s.pair).waiting.clone();
             let (serial, algorithm) = key.map_or((0, 256), |k| (k.serial, k.algorithm));
@@ -72,7 +76,7 @@ pub fn ask_for(maker: &mut Maker, kind: &str) -> (Signer, Ask, Want) {
 fn room(maker: &mut Maker, item: &str) -> bool {
     let (kind, room) = two_words(item);
     let (s, ask, want) = ask_for(maker, kind);
-    let mut call = maker.call(s.time);
+    let mut call = maker.call_for(&ask, s.time);
     call.good = kind != "BADSIG";
     let length = maker.due_reply(&call, &ask, want).len() as u64;
     call.room = room_for(length, room);

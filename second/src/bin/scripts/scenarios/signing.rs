@@ -518,7 +518,7 @@ fn finished(maker: &mut Maker, item: &str) -> bool {
         let seen = maker.look(&s.octets());
         return done && seen.pair == signer.pair && seen.serial == signer.serial;
     }
-    let call = maker.call(signer.time);
+    let call = maker.call_for(&ask, signer.time);
     done && maker.sends(&call, &s.octets(), want)
 }
 

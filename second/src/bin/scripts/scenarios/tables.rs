@@ -334,7 +334,7 @@ fn traffic(maker: &mut Maker, s: &Signer, want: Want) -> bool {
 
 fn renew(maker: &mut Maker, s: &Signer) -> bool {
     let ask = maker.renewal(s);
-    let call = maker.call(s.time);
+    let call = maker.call_for(&ask, s.time);
     maker.asks(&call, &ask, Want::Tkey(0))
 }
 
@@ -441,7 +441,7 @@ fn serial(maker: &mut Maker, item: &str) -> bool {
     }
     let s = maker.signer(pair, time);
     let ask = maker.renewal(&s);
-    let mut call = maker.call(time);
+    let mut call = maker.call_for(&ask, time);
     call.room = maker.due_reply(&call, &ask, Want::Tkey(0)).len() as u64;
     if s.serial != last || !maker.asks(&call, &ask, Want::Tkey(0)) {
         return false;

@@ -120,7 +120,7 @@ fn at_the_top(maker: &mut Maker, call: &str) -> bool {
             maker.issue(time, pair, 256);
             let s = maker.signer(pair, time);
             let renewal = maker.renewal(&s);
-            let call = maker.call(time);
+            let call = maker.call_for(&renewal, time);
             if !maker.asks(&call, &renewal, Want::Tkey(0)) {
                 return false;
             }
@@ -144,9 +144,11 @@ const EDGES: [&str; 9] = [
     "expiry +1",
 ];
 
-const KINDS: [&str; 7] = [
+const KINDS: [&str; 9] = [
     "ordinary",
-    "renewal",
+    "renewal 4097",
+    "renewal 4098",
+    "renewal 4099",
     "re-adoption",
     "adoption",
     "deletion",
@@ -217,14 +219,16 @@ fn life(maker: &mut Maker, item: &str) -> bool {
         return revoke_at(maker, &s, stage);
     }
     let ask = ask_of(maker, &s, kind);
-    let call = maker.call(time);
+    let call = maker.call_for(&ask, time);
     maker.asks(&call, &ask, want_at(stage, kind))
 }
 
 fn ask_of(maker: &mut Maker, s: &Signer, kind: &str) -> Ask {
     match kind {
         "ordinary" => maker.ordinary(s),
-        "renewal" => maker.renewal(s),
+        "renewal 4097" => maker.renewal_of(s, wire::DIFFIE_HELLMAN),
+        "renewal 4098" => maker.renewal_of(s, wire::BY_SERVER),
+        "renewal 4099" => maker.renewal_of(s, wire::BY_RESOLVER),
         "re-adoption" => maker.adoption(s, &s.name(), s.algorithm),
         "adoption" => {
             let key = maker.pair(s.pair).waiting.clone();
@@ -240,7 +244,8 @@ fn want_at(stage: Stage, kind: &str) -> Want {
     match (stage, kind) {
         (Stage::Before, _) => Want::Refused(3),
         (Stage::Expired, _) => Want::BadKey,
-        (_, "renewal" | "re-adoption" | "adoption") => Want::Tkey(0),
+        (_, "re-adoption" | "adoption") => Want::Tkey(0),
+        _ if kind.starts_with("renewal") => Want::Tkey(0),
         (Stage::Revoked, _) => Want::Partial,
         (Stage::Fresh, "ordinary") => Want::Passed(0),
         (Stage::Fresh, "deletion") => Want::Tkey(0),
@@ -396,6 +401,6 @@ fn requested(maker: &mut Maker, item: &str) -> bool {
     let mut ask = maker.renewal(&s);
     tkey(&mut ask).inception = inception;
     tkey(&mut ask).expiration = inception.wrapping_add(distance);
-    let call = maker.call(s.time);
+    let call = maker.call_for(&ask, s.time);
     maker.asks(&call, &ask, Want::Tkey(error))
 }

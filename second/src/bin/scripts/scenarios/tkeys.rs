@@ -1,4 +1,4 @@
-//! TKEY requests: what makes one, ill formed ones, every mode, and the three that are served.
+//! TKEY requests: what makes one, ill formed ones, every mode, and the five that are served.
 
 use super::tsigs::other_than;
 use super::{cross, list, two_words, Group};
@@ -10,8 +10,8 @@ pub fn groups() -> Vec<Group> {
     vec![
         Group {
             name: "TKEY form",
-            weight: 50,
-            items: || cross(&["4098", "4100", "5", "3"], &FORMS),
+            weight: 60,
+            items: || cross(&SOME_MODES, &FORMS),
             run: form,
         },
         Group {
@@ -34,20 +34,20 @@ pub fn groups() -> Vec<Group> {
         },
         Group {
             name: "other data",
-            weight: 50,
-            items: || cross(&["4098", "4100", "5", "3"], &OTHERS),
+            weight: 60,
+            items: || cross(&SOME_MODES, &OTHERS),
             run: other_data,
         },
         Group {
             name: "renewal",
-            weight: 90,
-            items: || list(&RENEWALS),
+            weight: 100,
+            items: || cross(&RENEWAL_MODES, &RENEWALS),
             run: renewal,
         },
         Group {
             name: "renewal algorithms",
             weight: 20,
-            items: || cross(&["256", "384", "512"], &["256", "384", "512"]),
+            items: algorithms,
             run: renewal_algorithms,
         },
         Group {
@@ -65,8 +65,12 @@ pub fn groups() -> Vec<Group> {
     ]
 }
 
+/// The modes that are served, and one that is not.
+const SOME_MODES: [&str; 6] = ["4097", "4098", "4099", "4100", "5", "3"];
+const RENEWAL_MODES: [&str; 3] = ["4097", "4098", "4099"];
+
 fn asked(maker: &mut Maker, s: &Signer, ask: &Ask, want: Want) -> bool {
-    let call = maker.call(s.time);
+    let call = maker.call_for(ask, s.time);
     maker.asks(&call, ask, want)
 }
 
@@ -77,7 +81,7 @@ fn number(text: &str) -> u16 {
 /// A request of this mode that is well formed, and what it comes to.
 fn of_mode(maker: &mut Maker, s: &Signer, mode: u16) -> (Ask, Want) {
     match mode {
-        wire::RENEW => (maker.renewal(s), Want::Tkey(0)),
+        _ if wire::RENEWALS.contains(&mode) => (maker.renewal_of(s, mode), Want::Tkey(0)),
         wire::ADOPT => (maker.adoption(s, &s.name(), s.algorithm), Want::Tkey(0)),
         // NAME of no key, so that the signing key stays.
         wire::DELETE => (maker.deletion(s, &key_name(0, &s.suffix)), Want::Tkey(20)),
@@ -183,7 +187,7 @@ fn count(maker: &mut Maker, item: &str) -> bool {
         "none, revoked key" => maker.revoked(),
         _ => maker.live(),
     };
-    let mode = *maker.rng.pick(&[wire::RENEW, wire::ADOPT, wire::DELETE, 2]);
+    let mode = number(maker.rng.pick::<&str>(&SOME_MODES));
     let (mut ask, _) = of_mode(maker, &s, mode);
     let mut record = tkey(&mut ask).record();
     match item {
@@ -224,7 +228,7 @@ fn ordinary(maker: &mut Maker, item: &str) -> bool {
         "opcode 5, revoked key" => maker.revoked(),
         _ => maker.live(),
     };
-    let mode = *maker.rng.pick(&[wire::RENEW, wire::ADOPT, wire::DELETE, 2]);
+    let mode = number(maker.rng.pick::<&str>(&SOME_MODES));
     let (mut ask, _) = of_mode(maker, &s, mode);
     let mut want = Want::Passed(0);
     match item {
@@ -306,17 +310,18 @@ fn other_data(maker: &mut Maker, item: &str) -> bool {
         _ => joined(&[&maker.rng.some_octets(1, 30), &[200]]),
     };
     let names_read = matches!(shape, "first name of 255 octets" | "two roots");
-    let want = match (mode, names_read) {
-        (wire::RENEW, true) => Want::Tkey(17),
+    let want = match mode {
+        _ if wire::RENEWALS.contains(&mode) && names_read => Want::Tkey(17),
+        _ if wire::RENEWALS.contains(&mode) => Want::Bad,
         // The adopted key is asked for, so the old names are not looked at.
-        (wire::ADOPT, true) => Want::Tkey(0),
-        (wire::RENEW | wire::ADOPT, false) => Want::Bad,
+        wire::ADOPT if names_read => Want::Tkey(0),
+        wire::ADOPT => Want::Bad,
         _ => fine,
     };
     asked(maker, &s, &ask, want)
 }
 
-const RENEWALS: [&str; 38] = [
+const RENEWALS: [&str; 39] = [
     "granted, no waiting key",
     "granted again",
     "granted to a revoked key",
@@ -346,6 +351,7 @@ const RENEWALS: [&str; 38] = [
     "two KEYs",
     "KEY in the answer only",
     "KEY in the authority only",
+    "KEY that does not fit",
     "algorithm unknown",
     "algorithm the root",
     "algorithm with a label more",
@@ -358,22 +364,26 @@ const RENEWALS: [&str; 38] = [
 ];
 
 fn renewal(maker: &mut Maker, item: &str) -> bool {
+    let (mode, item) = two_words(item);
+    let mode = number(mode);
     let s = renewal_signer(maker, item);
-    let mut ask = maker.renewal(&s);
-    let mut call = maker.call(s.time);
+    let mut ask = maker.renewal_of(&s, mode);
+    let mut call = maker.call_for(&ask, s.time);
     if item == "granted twice in one second" {
-        let first = maker.renewal(&s);
+        let first = maker.renewal_of(&s, mode);
         if !maker.asks(&call, &first, Want::Tkey(0)) {
             return false;
         }
     }
     for fault in faults(&item) {
         bend_renewal(maker, &s, &mut ask, fault);
-        if *fault == "empty offer" {
-            call.offer.clear();
+        match *fault {
+            "empty offer" => call.offer.clear(),
+            "KEY that does not fit" => call.fits = false,
+            _ => {}
         }
     }
-    let want = Want::Tkey(renewal_error(faults(&item)[0]));
+    let want = Want::Tkey(renewal_error(mode, faults(&item)[0]));
     maker.asks(&call, &ask, want)
 }
 
@@ -404,8 +414,14 @@ fn faults<'a>(item: &'a &'a str) -> &'a [&'a str] {
     }
 }
 
-fn renewal_error(fault: &str) -> u16 {
+fn renewal_error(mode: u16, fault: &str) -> u16 {
     match fault {
+        "KEY that does not fit" => match mode {
+            wire::DIFFIE_HELLMAN => 17,
+            wire::BY_RESOLVER => 1,
+            _ => 0,
+        },
+        "empty offer" if mode == wire::BY_RESOLVER => 0,
         "OldName in other case" | "OldAlgorithm in other case" => 0,
         "no KEY" | "two KEYs" | "KEY in the answer only" | "KEY in the authority only" => 1,
         "empty offer" => 2,
@@ -416,7 +432,7 @@ fn renewal_error(fault: &str) -> u16 {
     }
 }
 
-fn bend_renewal(maker: &mut Maker, s: &Signer, ask: &mut Ask, fault: &str) {
+pub fn bend_renewal(maker: &mut Maker, s: &Signer, ask: &mut Ask, fault: &str) {
     match fault {
         _ if fault.starts_with("Old") => bend_old(maker, s, ask, fault),
         _ if fault.starts_with("expiration") => bend_times(maker, ask, fault),
@@ -488,6 +504,7 @@ fn bend_key_records(maker: &mut Maker, s: &Signer, ask: &mut Ask, fault: &str) {
         "KEY before TKEY" => ask.keys_first = true,
         "another KEY in the answer" => ask.sections[0].push(another),
         "another KEY in the authority" => ask.sections[1].push(another),
+        "KEY that does not fit" => {}
         "no KEY" => ask.keys.clear(),
         "two KEYs" => ask.keys.push(another),
         "KEY in the answer only" => {
@@ -501,12 +518,20 @@ fn bend_key_records(maker: &mut Maker, s: &Signer, ask: &mut Ask, fault: &str) {
     }
 }
 
-/// The signing key's algorithm and the one asked for.
+fn algorithms() -> Vec<String> {
+    let all = ["256", "384", "512"];
+    let both: Vec<String> = cross(&all, &all);
+    let both: Vec<&str> = both.iter().map(String::as_str).collect();
+    cross(&RENEWAL_MODES, &both)
+}
+
+/// The mode, the signing key's algorithm and the one asked for.
 fn renewal_algorithms(maker: &mut Maker, item: &str) -> bool {
-    let (signing, wanted) = two_words(item);
+    let (mode, both) = two_words(item);
+    let (signing, wanted) = two_words(both);
     let s = maker.live_with(number(signing).into());
     let wanted = number(wanted).into();
-    let mut ask = maker.renewal(&s);
+    let mut ask = maker.renewal_of(&s, number(mode));
     tkey(&mut ask).algorithm = algorithm_name(wanted);
     let granted = asked(maker, &s, &ask, Want::Tkey(0));
     let made = maker.pair(s.pair).waiting.as_ref().map(|k| k.algorithm);
@@ -591,7 +616,7 @@ fn waiting_of_other_algorithm(maker: &mut Maker) -> Signer {
     let s = maker.live();
     let mut ask = maker.renewal(&s);
     tkey(&mut ask).algorithm = algorithm_name(other_than(s.algorithm));
-    let call = maker.call(s.time);
+    let call = maker.call_for(&ask, s.time);
     maker.send(&call, &ask.octets());
     s
 }

@@ -1,9 +1,9 @@
--- `requests::is_key_record` meets its contract. Assumes nothing.
+-- `tkey::is_key_record` meets its contract. Assumes nothing.
 use native.Mathlib.Omega.{arith}
-use Rattle.requests.proofs.Laws.{key-unnamed, key-within, key-cut, key-other, key-filled}
+use Rattle.tkey.proofs.KeyLaws.{key-unnamed, key-within, key-cut, key-other, key-filled}
 use borrow.Author.Needs.{needs}
-use Rattle.requests.proofs.is_key_record.Statement.{statement}
-use Rattle.requests.proofs.is_key_record.Tie as tie
+use Rattle.tkey.proofs.is_key_record.Statement.{statement}
+use Rattle.tkey.proofs.is_key_record.Tie as tie
 
 skip-plain-requires : tie.Need-skip-plain-requires
 skip-plain-requires c κs = search needs

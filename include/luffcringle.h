@@ -1,5 +1,18 @@
-/* Luffcringle: the key table of a DNS server and its seven calls, for C. The functions are those of the crate capi, whose contracts say what each call
- * leaves, for every value of every argument; link target/staticlib/libcapi.a (rt staticlib capi). */
+/* Luffcringle: the key table of a DNS server, what is under a TSIG's MAC, and the resolver's half of a key's renewal, for C and C++. Three parts:
+ *
+ *   the table      luffcringle_new_table .. luffcringle_batch; inquiries into it; what a TKEY request asks for
+ *   signatures     the octets that a MAC is calculated over, a TSIG appended, read and removed: for whoever calculates MACs
+ *   the resolver   luffcringle_resolver_*: an office's program or router that renews its key
+ *
+ * `make install` installs this header, libluffcringle.a with all of it and libluffcringle-office.a with the last two parts alone, and a file for pkg-config
+ * for each (luffcringle, luffcringle-office). Nothing else is needed to link them: no call allocates, waits, reads a file or a clock, or keeps anything.
+ *
+ * Every function is proved, and takes every value of every argument; docs/ARCHITECTURE.md says where its contract stands.
+ *
+ * Pointers, in every part: none is null, also where the length is 0; each leads to as many words or octets as its length, or the size that is declared, says,
+ * aligned for its type; what is written (what is not const) overlaps nothing else that is lent. That is the caller's to keep: no call can test it.
+ *
+ * Names are wire names (RFC 1035, 3.1): uncompressed, each label after its length, the root's 0 last; at most 255 octets. Times are seconds since 1970. */
 #ifndef LUFFCRINGLE_H
 #define LUFFCRINGLE_H
 
@@ -11,24 +24,31 @@
 extern "C" {
 #endif
 
-/* What a call returns, and the first word of its answer (document 01, "Numbers a caller sees"; the last two are of document 02). */
+/* The version of this header, and of the archive that is linked: 10,000 times the first number, 100 times the second, and the third. */
+#define LUFFCRINGLE_VERSION 200
+uint64_t luffcringle_version(void);
+
+/* ---- The table ---- */
+
+/* What a call on the table, an inquiry or a signing call returns (document 01, "Numbers a caller sees"; the last three are of document 02). */
 enum luffcringle_number {
     LUFFCRINGLE_DONE = 0,      /* work done */
     LUFFCRINGLE_TABLE = 1,     /* what was lent holds no table, or one that breaks a table rule */
-    LUFFCRINGLE_TIME = 2,      /* time is 2^48 - 2^31 or more */
+    LUFFCRINGLE_TIME = 2,      /* time is 2^48 - 2^31 or more; signing: time signed is 2^48 or more */
     LUFFCRINGLE_CLOCK = 3,     /* time is before the table's clock */
     LUFFCRINGLE_SIZE = 4,      /* message shorter than 12 or longer than 65535 octets */
     LUFFCRINGLE_OFFER = 5,     /* offered key data over 1024 octets */
-    LUFFCRINGLE_FORMAT = 6,    /* message breaks a reading rule, at the place that the answer gives */
+    LUFFCRINGLE_FORMAT = 6,    /* message breaks a reading rule, at the place that the answer gives (signing calls give none) */
     LUFFCRINGLE_NOTQUERY = 7,  /* QR bit is 1 */
-    LUFFCRINGLE_ROOM = 8,      /* reply longer than the lent buffer or than 65535 octets */
-    LUFFCRINGLE_NOPAIR = 9,    /* pair number not enrolled */
-    LUFFCRINGLE_NOKEY = 10,    /* revoke early: no adopted key, or expired */
+    LUFFCRINGLE_ROOM = 8,      /* what is to be written is longer than the lent buffer; a reply or a finished message than 65535 octets */
+    LUFFCRINGLE_NOPAIR = 9,    /* pair number not enrolled; no pair with that suffix */
+    LUFFCRINGLE_NOKEY = 10,    /* revoke early: no adopted key, or expired; key name: a serial that was never issued */
     LUFFCRINGLE_SPENT = 11,    /* issue: next serial is 2^32 */
-    LUFFCRINGLE_NAME = 12,     /* suffix is not a wire name of 3 to 128 octets */
+    LUFFCRINGLE_NAME = 12,     /* suffix is not a wire name of 3 to 128 octets; a key's or an algorithm's name is no wire name */
     LUFFCRINGLE_TERM = 13,     /* enrol: not 1 <= fresh < lifetime <= 2^31 - 1; enrol or issue: algorithm not 256, 384 or 512 */
     LUFFCRINGLE_TWIN = 14,     /* suffix already enrolled */
     LUFFCRINGLE_FULL = 15,     /* 64 pairs enrolled */
+    LUFFCRINGLE_MACSIZE = 16,  /* signing: a MAC of over 64 octets */
     LUFFCRINGLE_BATCH = 17,    /* batch: more than 64 items, or one outside the lent octets */
     LUFFCRINGLE_KEYREC = 19    /* a renewal of mode 4097 would be granted, but the lent record is not one KEY record */
 };
@@ -90,10 +110,7 @@ enum luffcringle_answer {
  * - After every call, done or refused, what was lent holds exactly the table that the call left.
  * - A call reads and writes only what it is lent, keeps nothing and allocates nothing. Two threads may call at the same time, but not on one table:
  *   a call may not write a table that another call reads or writes. Two looks may share one.
- * - Pointers: none is null, also where the length is 0; each leads to as many words or octets as its length says (words: 1091, suffixes: 8192,
- *   answer: 7, items: 576, answers: 448), aligned for its type; what is written (what is not const) overlaps nothing else that is lent. That is the
- *   caller's to keep: no call can test it.
- * - Times are seconds since 1970. MACs, secrets and key data are the caller's. */
+ * - MACs, secrets and key data are the caller's. */
 
 /* New table: no pairs, its clock the time given, whatever was lent. Refused with TIME, which leaves every word. */
 uint64_t luffcringle_new_table(uint64_t words[LUFFCRINGLE_TABLE_WORDS], const uint8_t suffixes[LUFFCRINGLE_TABLE_OCTETS], uint64_t time,
@@ -200,6 +217,210 @@ enum luffcringle_item {
 uint64_t luffcringle_batch(uint64_t words[LUFFCRINGLE_TABLE_WORDS], const uint8_t suffixes[LUFFCRINGLE_TABLE_OCTETS], uint64_t count,
                            const uint64_t items[LUFFCRINGLE_ITEMS_WORDS], const uint8_t *octets, size_t octets_length,
                            uint64_t answers[LUFFCRINGLE_ANSWERS_WORDS], uint8_t *replies, size_t replies_room);
+
+/* ---- Inquiries ----
+ *
+ * They change nothing, take no time, and may share a table with looks. Where one is refused, its words are 0 and its octets stay as they are. */
+
+/* Whether the words and octets that are lent hold a table that keeps every rule: DONE, or TABLE. */
+uint64_t luffcringle_test(const uint64_t words[LUFFCRINGLE_TABLE_WORDS], const uint8_t suffixes[LUFFCRINGLE_TABLE_OCTETS]);
+
+/* The pair with this suffix, without regard to case. Refused with TABLE, NOPAIR. */
+uint64_t luffcringle_pair_of_suffix(const uint64_t words[LUFFCRINGLE_TABLE_WORDS], const uint8_t suffixes[LUFFCRINGLE_TABLE_OCTETS],
+                                    const uint8_t *suffix, size_t suffix_length, uint64_t *pair);
+
+/* The pair that a key's name belongs to: its suffix follows the first label, whatever that label is. Refused with TABLE, NAME, NOPAIR. */
+uint64_t luffcringle_pair_of_key(const uint64_t words[LUFFCRINGLE_TABLE_WORDS], const uint8_t suffixes[LUFFCRINGLE_TABLE_OCTETS],
+                                 const uint8_t *name, size_t name_length, uint64_t *pair);
+
+/* The name of the key with this serial, of a pair, which that pair once issued: into the first octets of `name`, of which 139 are enough. Refused with
+ * TABLE, NOPAIR, NOKEY (serial 0, or one not yet issued), ROOM. Keep secrets by this name and not by the pair's number. */
+#define LUFFCRINGLE_KEY_NAME_OCTETS 139
+uint64_t luffcringle_key_name(const uint64_t words[LUFFCRINGLE_TABLE_WORDS], const uint8_t suffixes[LUFFCRINGLE_TABLE_OCTETS], uint64_t pair,
+                              uint64_t serial, uint8_t *name, size_t name_room, uint64_t *name_length);
+
+/* A pair, in the order of the table's words + 2 .. 15; the words of a key that there is not are 0. Refused with TABLE, NOPAIR. */
+#define LUFFCRINGLE_PAIR_WORDS 14
+enum luffcringle_shown {
+    LUFFCRINGLE_SHOWN_LIFETIME = 0,
+    LUFFCRINGLE_SHOWN_FRESH = 1,
+    LUFFCRINGLE_SHOWN_NEXT_SERIAL = 2,
+    LUFFCRINGLE_SHOWN_KEYS = 3,     /* 0 none, 1 an adopted key, 2 an adopted and a waiting key */
+    LUFFCRINGLE_SHOWN_ADOPTED = 4,  /* five words: serial, algorithm (256, 384 or 512), inception, partial, expiry */
+    LUFFCRINGLE_SHOWN_WAITING = 9   /* likewise */
+};
+uint64_t luffcringle_pair(const uint64_t words[LUFFCRINGLE_TABLE_WORDS], const uint8_t suffixes[LUFFCRINGLE_TABLE_OCTETS], uint64_t pair,
+                          uint64_t shown[LUFFCRINGLE_PAIR_WORDS]);
+
+/* What became of a pair's keys between two times that luffcringle_pair showed it, as before and after a message: which secret is new, and which need not be
+ * kept. Four serials, 0 where there is none. Keys are told apart by their serials. Between these times one call: over more, a key that was made and went
+ * again is not seen. */
+#define LUFFCRINGLE_MOVES_WORDS 4
+enum luffcringle_move {
+    LUFFCRINGLE_MADE = 0,     /* a key that was not there; the newer of two */
+    LUFFCRINGLE_ADOPTED = 1,  /* the key that was waiting, and is adopted now */
+    LUFFCRINGLE_ENDED = 2,    /* the key that was adopted, and is gone */
+    LUFFCRINGLE_DROPPED = 3   /* the key that was waiting, and is gone */
+};
+void luffcringle_moves(const uint64_t before[LUFFCRINGLE_PAIR_WORDS], const uint64_t after[LUFFCRINGLE_PAIR_WORDS],
+                       uint64_t moves[LUFFCRINGLE_MOVES_WORDS]);
+
+/* What a TKEY request asks for, to be called before luffcringle_message, which takes the offer, the keying verdict and the KEY record as arguments. Octets
+ * are told by their place in the message and their count, 0 where there are none. Refused with SIZE, FORMAT (beside it the place), NOTQUERY.
+ *
+ * Mode 0: the message asks for nothing: it is no TKEY request, or has not one well formed TKEY (or that is of the reserved mode 0, which the table
+ * answers with BADMODE). */
+#define LUFFCRINGLE_ASKED_WORDS 9
+enum luffcringle_asked {
+    LUFFCRINGLE_ASKED_PLACE = 0,      /* where reading failed, beside FORMAT; else 0 */
+    LUFFCRINGLE_ASKED_MODE = 1,       /* 4097, 4098 and 4099 renewal, 4100 adoption, 5 deletion, others */
+    LUFFCRINGLE_ASKED_ALGORITHM = 2,  /* 256, 384 or 512; 0 for any other name */
+    LUFFCRINGLE_ASKED_INCEPTION = 3,
+    LUFFCRINGLE_ASKED_EXPIRATION = 4,
+    LUFFCRINGLE_ASKED_DATA = 5,       /* its key data: place, and size */
+    LUFFCRINGLE_ASKED_DATA_SIZE = 6,
+    LUFFCRINGLE_ASKED_KEY = 7,        /* the data of the only KEY record of the additional section: place (0: there is no such record), and size */
+    LUFFCRINGLE_ASKED_KEY_SIZE = 8
+};
+uint64_t luffcringle_asks(const uint8_t *message, size_t message_length, uint64_t asked[LUFFCRINGLE_ASKED_WORDS]);
+
+/* ---- Signatures (RFC 8945) ----
+ *
+ * Whoever sends: has luffcringle_digest_request or luffcringle_digest_reply write the octets under the MAC, calculates the MAC over them, and has
+ * luffcringle_finish append the TSIG. Whoever receives: luffcringle_read_tsig says who signed and how, luffcringle_received_request or
+ * luffcringle_received_reply write the octets under the MAC that came; luffcringle_remove takes the TSIG off.
+ *
+ * What a call writes fills the first octets of its buffer, and their count goes to *written; the rest keep their contents. A refusal writes nothing, and
+ * sets *written to 0. `message` has no TSIG in the first four calls, and has one in the others: else FORMAT. `signed_time`, `fudge`, `original_id`, `error`
+ * and `other` are the TSIG's fields; the original ID is the message's, unless it is sent on under another one. A digest is at most as long as the message,
+ * the MAC, both names and other data together, in a stream the messages before too, and 20 octets more. */
+
+/* The digest of a request. Refused with SIZE, FORMAT, NAME, TIME, ROOM (also for other data over 65535 octets). */
+uint64_t luffcringle_digest_request(const uint8_t *message, size_t message_length, const uint8_t *name, size_t name_length, const uint8_t *algorithm,
+                                    size_t algorithm_length, uint64_t signed_time, uint16_t fudge, uint16_t original_id, uint16_t error,
+                                    const uint8_t *other, size_t other_length, uint8_t *digest, size_t digest_room, uint64_t *written);
+
+/* The digest of a reply to a request with this MAC, which may be empty. Refused with SIZE, FORMAT, NAME, TIME, MACSIZE, ROOM (also for
+ * other data over 65535 octets). */
+uint64_t luffcringle_digest_reply(const uint8_t *request_mac, size_t request_mac_length, const uint8_t *message, size_t message_length,
+                                  const uint8_t *name, size_t name_length, const uint8_t *algorithm, size_t algorithm_length, uint64_t signed_time,
+                                  uint16_t fudge, uint16_t original_id, uint16_t error, const uint8_t *other, size_t other_length, uint8_t *digest,
+                                  size_t digest_room, uint64_t *written);
+
+/* The digest of a later message of a stream, as of a zone transfer (RFC 8945, 5.3.1), whose first is a reply. `prior_mac` is the MAC of the message before that
+ * had a TSIG; `before` the messages since that have none, one after another, most often no octets. Refused with SIZE, FORMAT, TIME, MACSIZE, ROOM. */
+uint64_t luffcringle_digest_later(const uint8_t *prior_mac, size_t prior_mac_length, const uint8_t *before, size_t before_length,
+                                  const uint8_t *message, size_t message_length, uint64_t signed_time, uint16_t fudge, uint16_t original_id,
+                                  uint8_t *digest, size_t digest_room, uint64_t *written);
+
+/* The finished message: its TSIG appended. Names are written as given. Refused with SIZE, FORMAT, NAME, TIME, MACSIZE, ROOM. */
+uint64_t luffcringle_finish(const uint8_t *message, size_t message_length, const uint8_t *name, size_t name_length, const uint8_t *algorithm,
+                            size_t algorithm_length, uint64_t signed_time, uint16_t fudge, uint16_t original_id, uint16_t error, const uint8_t *mac,
+                            size_t mac_length, const uint8_t *other, size_t other_length, uint8_t *finished, size_t finished_room, uint64_t *written);
+
+/* The TSIG of a message. Its names are written out into the first octets of `name` and `algorithm`, as they stand (compare them without regard to case);
+ * MAC and other data are told by place and size. Refused with SIZE, FORMAT. */
+#define LUFFCRINGLE_NAME_OCTETS 255
+#define LUFFCRINGLE_TSIG_WORDS 10
+enum luffcringle_tsig {
+    LUFFCRINGLE_TSIG_NAME_LENGTH = 0,
+    LUFFCRINGLE_TSIG_ALGORITHM_LENGTH = 1,
+    LUFFCRINGLE_TSIG_SIGNED = 2,
+    LUFFCRINGLE_TSIG_FUDGE = 3,
+    LUFFCRINGLE_TSIG_MAC = 4,
+    LUFFCRINGLE_TSIG_MAC_SIZE = 5,
+    LUFFCRINGLE_TSIG_ORIGINAL_ID = 6,
+    LUFFCRINGLE_TSIG_ERROR = 7,
+    LUFFCRINGLE_TSIG_OTHER = 8,
+    LUFFCRINGLE_TSIG_OTHER_SIZE = 9
+};
+uint64_t luffcringle_read_tsig(const uint8_t *message, size_t message_length, uint8_t name[LUFFCRINGLE_NAME_OCTETS],
+                               uint8_t algorithm[LUFFCRINGLE_NAME_OCTETS], uint64_t fields[LUFFCRINGLE_TSIG_WORDS]);
+
+/* The message without its TSIG, its ID as it came. Refused with SIZE, FORMAT, ROOM. */
+uint64_t luffcringle_remove(const uint8_t *message, size_t message_length, uint8_t *rest, size_t rest_room, uint64_t *written);
+
+/* The octets under the MAC of a message that came with its TSIG: of a request; of a reply to a request with this MAC; of a later message of a stream. Refused
+ * with SIZE, FORMAT, MACSIZE (not of a request), ROOM. */
+uint64_t luffcringle_received_request(const uint8_t *message, size_t message_length, uint8_t *digest, size_t digest_room, uint64_t *written);
+uint64_t luffcringle_received_reply(const uint8_t *request_mac, size_t request_mac_length, const uint8_t *message, size_t message_length,
+                                    uint8_t *digest, size_t digest_room, uint64_t *written);
+uint64_t luffcringle_received_later(const uint8_t *prior_mac, size_t prior_mac_length, const uint8_t *before, size_t before_length,
+                                    const uint8_t *message, size_t message_length, uint8_t *digest, size_t digest_room, uint64_t *written);
+
+/* ---- The resolver (document 02, change request 1) ----
+ *
+ * An office's half of a renewal. It holds its adopted key and at most one offered key; it writes requests, whose MACs the caller calculates, and reads the
+ * replies, whose MACs the caller has verified. The order of a renewal: write a renewal, read its reply (there is an offered key now, whose secret is in the
+ * reply's key data), write an adoption, read its reply. An adoption that had no good reply is written again: it is signed with the other key, in turn.
+ *
+ * The state is 12 words and 510 octets, which the caller keeps and lends to each call:
+ *
+ *   word 0         which keys are held: 1 the adopted one, 2 the adopted and the offered one; every other value: none
+ *   word 1 .. 4    the adopted key: its name's length, algorithm (256, 384 or 512), inception, expiration
+ *   word 5 .. 8    the offered key, likewise
+ *   word 9         the open request: 1 an ordinary message, 2 a renewal, 3 an adoption, 4 a deletion; every other value: none
+ *   word 10        its ID
+ *   word 11        1: the next adoption is signed with the offered key; every other value: with the adopted one
+ *   octet 0 ..     the adopted key's name, and from octet 255 on the offered key's
+ *
+ * Every content is a state: a key with another algorithm is not held; times are read modulo 2^32 and the ID modulo 2^16. What a key that is not held has in its
+ * words has no meaning, and a call may change it. A refusal changes no word and no octet of the state, and what it tells is 0. */
+#define LUFFCRINGLE_RESOLVER_WORDS 12
+#define LUFFCRINGLE_RESOLVER_OCTETS 510
+struct luffcringle_resolver {
+    uint64_t words[LUFFCRINGLE_RESOLVER_WORDS];
+    uint8_t names[LUFFCRINGLE_RESOLVER_OCTETS];
+};
+
+/* What the resolver's calls return: document 02's own list. */
+enum luffcringle_resolver_number {
+    LUFFCRINGLE_RESOLVER_DONE = 0,
+    LUFFCRINGLE_RESOLVER_LOST = 1,      /* reply: no request is open */
+    LUFFCRINGLE_RESOLVER_WRONGID = 2,   /* reply: another ID than the open request's */
+    LUFFCRINGLE_RESOLVER_UNSIGNED = 3,  /* reply: no TSIG, or a bad verdict */
+    LUFFCRINGLE_RESOLVER_FORMAT = 4,    /* reply: no message */
+    LUFFCRINGLE_RESOLVER_ROOM = 5,      /* the request is longer than the lent buffer or than 65535 octets */
+    LUFFCRINGLE_RESOLVER_NOKEY = 6      /* no key for that request, a name that is no wire name, an algorithm that is none, or a record that is no KEY record */
+};
+
+/* Hold: the state of a resolver that holds this adopted key and nothing else. Refused with NOKEY. */
+uint64_t luffcringle_resolver_hold(uint64_t words[LUFFCRINGLE_RESOLVER_WORDS], uint8_t names[LUFFCRINGLE_RESOLVER_OCTETS], const uint8_t *name,
+                                   size_t name_length, uint64_t algorithm, uint32_t inception, uint32_t expiration);
+
+/* Which key is to sign what was written. */
+#define LUFFCRINGLE_SENDING_WORDS 2
+enum luffcringle_sending {
+    LUFFCRINGLE_SENDING_LENGTH = 0,  /* the octets of the request */
+    LUFFCRINGLE_SENDING_SIGNER = 1   /* 0 nobody, where it is refused; 1 the adopted key; 2 the offered key */
+};
+
+/* Write a renewal of mode 4098: `name` is what the new key is to be called (none: the root; the server chooses), `record` the office's KEY record, under
+ * which the server encrypts the new secret. It is signed with the adopted key, and is the open request now. Refused with NOKEY, ROOM. */
+uint64_t luffcringle_resolver_renewal(uint64_t words[LUFFCRINGLE_RESOLVER_WORDS], uint8_t names[LUFFCRINGLE_RESOLVER_OCTETS], uint16_t id,
+                                      const uint8_t *name, size_t name_length, uint64_t algorithm, uint32_t inception, uint32_t expiration,
+                                      const uint8_t *record, size_t record_length, uint8_t *request, size_t request_room,
+                                      uint64_t sending[LUFFCRINGLE_SENDING_WORDS]);
+
+/* Write an adoption of the offered key, or a deletion of the adopted one. Refused with NOKEY, ROOM. */
+uint64_t luffcringle_resolver_adoption(uint64_t words[LUFFCRINGLE_RESOLVER_WORDS], uint8_t names[LUFFCRINGLE_RESOLVER_OCTETS], uint16_t id,
+                                       uint8_t *request, size_t request_room, uint64_t sending[LUFFCRINGLE_SENDING_WORDS]);
+uint64_t luffcringle_resolver_deletion(uint64_t words[LUFFCRINGLE_RESOLVER_WORDS], uint8_t names[LUFFCRINGLE_RESOLVER_OCTETS], uint16_t id,
+                                       uint8_t *request, size_t request_room, uint64_t sending[LUFFCRINGLE_SENDING_WORDS]);
+
+/* Note the ID of an ordinary message, so that its reply can say that renewal is due. */
+void luffcringle_resolver_note(uint64_t words[LUFFCRINGLE_RESOLVER_WORDS], uint8_t names[LUFFCRINGLE_RESOLVER_OCTETS], uint16_t id);
+
+/* Read a reply. `good` is the caller's verdict on its MAC and its time. Refused with FORMAT, LOST, WRONGID, UNSIGNED. */
+#define LUFFCRINGLE_HEARD_WORDS 4
+enum luffcringle_heard {
+    LUFFCRINGLE_HEARD_DUE = 0,       /* 1: the server says PartialRevoke, renew now */
+    LUFFCRINGLE_HEARD_GRANTED = 1,   /* 1: a renewal is granted, and there is a new offered key */
+    LUFFCRINGLE_HEARD_DATA = 2,      /* its key data in the message, the encrypted secret: place, and size */
+    LUFFCRINGLE_HEARD_DATA_SIZE = 3
+};
+uint64_t luffcringle_resolver_reply(uint64_t words[LUFFCRINGLE_RESOLVER_WORDS], uint8_t names[LUFFCRINGLE_RESOLVER_OCTETS], bool good,
+                                    const uint8_t *message, size_t message_length, uint64_t heard[LUFFCRINGLE_HEARD_WORDS]);
 
 #ifdef __cplusplus
 }

@@ -1,6 +1,6 @@
 /* The replay script (docs/SCRIPT.md) on the C interface: calls on standard input, results on standard output. An example for C users and a test:
  *
- *   gcc -std=c11 -Wall -Wextra -Werror -Iinclude bindings/c/day.c target/staticlib/libcapi.a -o day && ./day <examples/day.script
+ *   gcc -std=c11 -Wall -Wextra -Werror -Iinclude bindings/c/day.c target/staticlib/libluffcringle.a -o day && ./day <examples/day.script
  */
 #include <inttypes.h>
 #include <stdio.h>

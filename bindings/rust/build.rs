@@ -1,16 +1,16 @@
-//! Links the archive of proved code that `rt staticlib capi` writes.
+//! Links the archive of proved code that `make` writes.
 
 use std::path::Path;
 
 fn main() {
     let folder = Path::new(env!("CARGO_MANIFEST_DIR")).join("../../target/staticlib");
-    let archive = folder.join("libcapi.a");
+    let archive = folder.join("libluffcringle.a");
     println!("cargo:rerun-if-changed={}", archive.display());
     assert!(
         archive.is_file(),
-        "{} is missing: run `rt staticlib capi` first",
+        "{} is missing: run `make` first",
         archive.display()
     );
     println!("cargo:rustc-link-search=native={}", folder.display());
-    println!("cargo:rustc-link-lib=static=capi");
+    println!("cargo:rustc-link-lib=static=luffcringle");
 }

@@ -4,6 +4,6 @@ set -euo pipefail
 cd "$(dirname "$0")/../.."
 work=$(mktemp -d)
 trap 'rm -rf "$work"' EXIT
-rt staticlib measure_resolver | tail -n 1
-gcc -std=gnu11 -Wall -Wextra -Werror -O2 -Wl,-z,now measure/resolver/stack.c target/staticlib/libmeasure_resolver.a -o "$work/stack"
+rt staticlib capi_resolver | tail -n 1
+gcc -std=gnu11 -Wall -Wextra -Werror -O2 -Wl,-z,now measure/resolver/stack.c target/staticlib/libcapi_resolver.a -o "$work/stack"
 "$work/stack"

@@ -1,7 +1,8 @@
-/* The stack that each call of the resolver takes. The call runs on a stack of its own that was filled with one octet, and what it changed is counted; then
- * it runs again on a stack of 8 KiB, below which lies a page that nobody may touch. The figures include the frame of the measured function, which makes
- * the resolver and keeps what is left of it; the octets at the top that makecontext takes for itself are counted apart. Ends with 1 where a call takes more. */
+/* The stack that each call of the resolver takes, as it is exported for C. The call runs on a stack of its own that was filled with one octet, and what it
+ * changed is counted; then it runs again on a stack of 8 KiB, below which lies a page that nobody may touch. The state is made anew before each. The octets
+ * at the top that makecontext takes for itself are counted apart. Ends with 1 where a call takes more. */
 #define _GNU_SOURCE
+#include <stdbool.h>
 #include <stdint.h>
 #include <stdio.h>
 #include <string.h>
@@ -9,33 +10,45 @@
 #include <ucontext.h>
 #include <unistd.h>
 
-typedef uint8_t name[255];
-uint64_t measure_renewal(const name *key, size_t length, const uint8_t *record, size_t record_length, uint8_t *out, size_t out_length, name *adopted, name *offered);
-uint64_t measure_adoption(const name *key, size_t length, uint8_t *out, size_t out_length, name *adopted, name *offered);
-uint64_t measure_deletion(const name *key, size_t length, uint8_t *out, size_t out_length, name *adopted, name *offered);
-void measure_note(const name *key, size_t length, uint16_t id, name *adopted, name *offered);
-uint64_t measure_reply(const name *key, size_t length, const uint8_t *reply, size_t reply_length, name *adopted, name *offered);
-uint64_t measure_offer(const name *key, size_t length, const uint8_t *reply, size_t reply_length, name *adopted, name *offered);
+uint64_t luffcringle_resolver_hold(uint64_t words[12], uint8_t names[510], const uint8_t *name, size_t name_length, uint64_t algorithm, uint32_t inception,
+                                   uint32_t expiration);
+uint64_t luffcringle_resolver_renewal(uint64_t words[12], uint8_t names[510], uint16_t id, const uint8_t *name, size_t name_length, uint64_t algorithm,
+                                      uint32_t inception, uint32_t expiration, const uint8_t *record, size_t record_length, uint8_t *out, size_t out_length,
+                                      uint64_t told[2]);
+uint64_t luffcringle_resolver_adoption(uint64_t words[12], uint8_t names[510], uint16_t id, uint8_t *out, size_t out_length, uint64_t told[2]);
+uint64_t luffcringle_resolver_deletion(uint64_t words[12], uint8_t names[510], uint16_t id, uint8_t *out, size_t out_length, uint64_t told[2]);
+void luffcringle_resolver_note(uint64_t words[12], uint8_t names[510], uint16_t id);
+uint64_t luffcringle_resolver_reply(uint64_t words[12], uint8_t names[510], bool good, const uint8_t *message, size_t message_length, uint64_t told[4]);
 
-enum { FILL = 0xa5, STACK = 1 << 20, LIMIT = 8192, MESSAGE = 65535, DELETION = 5, RENEWAL = 4098, ADOPTION = 4100 };
+enum { FILL = 0xa5, STACK = 1 << 20, LIMIT = 8192, MESSAGE = 65535, ID = 4660, DATA = 16, RENEWAL = 4098, ADOPTION = 4100 };
 
 static uint8_t stack[STACK] __attribute__((aligned(64))), message[MESSAGE], out[MESSAGE], *small;
-static name key, adopted, offered;
+static uint8_t key[255], names[510];
+static uint64_t words[12], told[4], number;
 static size_t size, base;
-static uint64_t number;
 static int failed;
 static ucontext_t here, there;
 
+/* Two keys of the longest name are held, and a request for this mode is open. */
+static void prepare(size_t mode) {
+    uint64_t asking = mode == RENEWAL ? 2 : 3;
+    uint64_t state[12] = {2, sizeof key, 512, 0, 1, sizeof key, 512, 0, 1, asking, ID, 0};
+    memcpy(words, state, sizeof words);
+    memcpy(names, key, sizeof key), memcpy(names + sizeof key, key, sizeof key);
+    memset(told, 0, sizeof told);
+    number = 99;
+}
+
 static void nothing(void) { number = 0; }
+static void hold(void) { number = luffcringle_resolver_hold(words, names, key, sizeof key, 512, 0, 1); }
 static void renewal(void) {
     static const uint8_t record[] = {0, 0, 25, 0, 255, 0, 0, 0, 0, 0, 4, 2, 0, 3, 1};
-    number = measure_renewal(&key, sizeof key, record, sizeof record, out, sizeof out, &adopted, &offered);
+    number = luffcringle_resolver_renewal(words, names, ID, NULL, 0, 512, 0, 1, record, sizeof record, out, sizeof out, told);
 }
-static void adoption(void) { number = measure_adoption(&key, sizeof key, out, sizeof out, &adopted, &offered); }
-static void deletion(void) { number = measure_deletion(&key, sizeof key, out, sizeof out, &adopted, &offered); }
-static void note(void) { measure_note(&key, sizeof key, 1, &adopted, &offered), number = 0; }
-static void reply(void) { number = measure_reply(&key, sizeof key, message, size, &adopted, &offered); }
-static void offer(void) { number = measure_offer(&key, sizeof key, message, size, &adopted, &offered); }
+static void adoption(void) { number = luffcringle_resolver_adoption(words, names, ID, out, sizeof out, told); }
+static void deletion(void) { number = luffcringle_resolver_deletion(words, names, ID, out, sizeof out, told); }
+static void note(void) { luffcringle_resolver_note(words, names, ID), number = 0; }
+static void reply(void) { number = luffcringle_resolver_reply(words, names, true, message, size, told); }
 
 static void run(void (*call)(void), uint8_t *bottom, size_t octets) {
     getcontext(&there);
@@ -54,13 +67,28 @@ static size_t taken(void (*call)(void)) {
     return STACK - untouched;
 }
 
-static void show(const char *what, void (*call)(void)) {
+/* Whether the call did its work: a reply to a renewal offers another key and brings the key data, one to an adoption leaves one key; a request is written, and
+ * the adopted key is to sign it. */
+static bool worked(void (*call)(void), size_t mode) {
+    if (number != 0) return false;
+    if (call == hold) return words[0] == 1 && words[9] == 0;
+    if (call == note) return words[9] == 1 && words[10] == ID;
+    if (call != reply) return told[0] != 0 && told[1] == 1;
+    if (mode == ADOPTION) return words[0] == 1 && words[9] == 0 && told[1] == 0;
+    if (memcmp(names + sizeof key, key, sizeof key) == 0 || told[1] != 1 || told[3] != DATA) return false;
+    for (int i = 0; i < DATA; i++)
+        if (message[told[2] + (size_t)i] != 'k') return false;
+    return true;
+}
+
+static void show(const char *what, void (*call)(void), size_t mode) {
+    prepare(mode);
     size_t all = taken(call);
     printf("%-64s %6zu octets, number %llu\n", what, all - base, (unsigned long long)number);
     fflush(stdout);
-    int moved = call != offer || memcmp(offered, key, sizeof key) != 0; /* the reply's key is the offered one */
-    if (all > LIMIT || number != 0 || !moved) failed = 1;
-    else run(call, small, LIMIT);
+    bool ok = all <= LIMIT && worked(call, mode);
+    if (ok) prepare(mode), run(call, small, LIMIT);
+    if (!ok || !worked(call, mode)) failed = 1;
 }
 
 static void put(int octet) { message[size++] = (uint8_t)octet; }
@@ -70,9 +98,12 @@ static void front(size_t type, size_t length) { put16(type), put16(255), put16(0
 static void algorithm(void) { memcpy(message + size, "\13hmac-sha512", 13), size += 13; }
 static void point(size_t place) { put16(0xc000 + place); }
 
-/* The answer of a mode and the signature, their owner names at `place`: 138 octets. */
+/* The answer of a mode, with its key data, and the signature, their owner names at `place`: TAIL octets. */
+enum { TAIL = 138 + DATA };
 static void finish(size_t place, size_t mode) {
-    point(place), front(249, 29), algorithm(), put16(0), put16(0), put16(0), put16(1), put16(mode), put16(0), put16(0), put16(0);
+    point(place), front(249, 29 + DATA), algorithm(), put16(0), put16(0), put16(0), put16(1), put16(mode), put16(0), put16(DATA);
+    for (int i = 0; i < DATA; i++) put('k');
+    put16(0);
     point(place), front(250, 61), algorithm(), put16(0), put16(0), put16(1000), put16(300), put16(32);
     for (int i = 0; i < 32; i++) put(170);
     put16(4660), put16(0), put16(0);
@@ -106,7 +137,7 @@ static void chain(size_t mode) {
         if (size == end) end += 256 * (size_t)message[21] + message[22];
     }
     while (size < end) put(0);
-    size_t rest = MESSAGE - 138 - size - 11;
+    size_t rest = MESSAGE - TAIL - size - 11;
     put(0), front(16, rest);
     while (rest-- > 0) put(0);
     finish(before, mode);
@@ -121,16 +152,17 @@ int main(void) {
     printf("%-64s %6zu octets\n", "(makecontext)", base);
     /* The longest name: 127 labels of one octet, each with the value 1. */
     memset(key, 1, 254);
-    show("write a renewal", renewal);
-    show("write an adoption", adoption);
-    show("write a deletion", deletion);
-    show("note an ID", note);
-    usual(RENEWAL), show("read a reply that offers a key", offer);
-    deepest(RENEWAL), show("the same, its names of 127 runs of a label and a pointer", offer);
-    chain(RENEWAL), show("the same, 65,535 octets, its names at the end of 8,186 pointers", offer);
-    usual(ADOPTION), show("read a reply that adopts", reply);
-    deepest(ADOPTION), show("the same, its names of 127 runs of a label and a pointer", reply);
-    chain(ADOPTION), show("the same, 65,535 octets, its names at the end of 8,186 pointers", reply);
+    show("hold a key", hold, RENEWAL);
+    show("write a renewal", renewal, RENEWAL);
+    show("write an adoption", adoption, RENEWAL);
+    show("write a deletion", deletion, RENEWAL);
+    show("note an ID", note, RENEWAL);
+    usual(RENEWAL), show("read a reply that offers a key", reply, RENEWAL);
+    deepest(RENEWAL), show("the same, its names of 127 runs of a label and a pointer", reply, RENEWAL);
+    chain(RENEWAL), show("the same, 65,535 octets, its names at the end of 8,186 pointers", reply, RENEWAL);
+    usual(ADOPTION), show("read a reply that adopts", reply, ADOPTION);
+    deepest(ADOPTION), show("the same, its names of 127 runs of a label and a pointer", reply, ADOPTION);
+    chain(ADOPTION), show("the same, 65,535 octets, its names at the end of 8,186 pointers", reply, ADOPTION);
     puts(failed ? "more than 8 KiB, or a call that did not do its work" : "each within 8 KiB, makecontext's octets included");
     return failed;
 }

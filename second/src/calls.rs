@@ -250,7 +250,7 @@ pub(crate) fn is_sized(octets: &[u8]) -> bool {
 }
 
 /// 01, numbers 6 and 7.
-fn read_query(octets: &[u8]) -> Result<Message<'_>, Refusal> {
+pub(crate) fn read_query(octets: &[u8]) -> Result<Message<'_>, Refusal> {
     let message = Message::read(octets).map_err(Refusal::Format)?;
     ensure(!message.is_response(), Refusal::NotQuery)?;
     Ok(message)

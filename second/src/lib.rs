@@ -11,12 +11,14 @@
 //! `resolver` is the other half of the protocol (CR 1): it writes the requests
 //! and reads the replies. `signing` has the octets under a MAC, and puts a TSIG
 //! on and takes it off (CR 3); it knows no key. `batch` makes several message
-//! calls in one (CR 4). A renewal has one of three schemes (CR 10); the resolver
+//! calls in one (CR 4). `inquiries` are what a name server asks beside: of a
+//! table, of a pair before and after a call, of a message. A renewal has one of three schemes (CR 10); the resolver
 //! here asks for server assignment alone.
 #![forbid(unsafe_code)]
 
 pub mod batch;
 pub mod calls;
+pub mod inquiries;
 mod judging;
 pub mod names;
 mod reply;

@@ -322,3 +322,9 @@ impl Question<'_> {
         .concat()
     }
 }
+
+/// The key data of a reply's only TKEY answer.
+pub fn answer_data(octets: &[u8]) -> Option<Vec<u8>> {
+    let message = Message::read(octets).ok()?;
+    Some(message.tkey_answer()?.key_data.to_vec())
+}

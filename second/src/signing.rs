@@ -112,6 +112,99 @@ pub fn remove(octets: &[u8], buffer: &mut [u8]) -> Result<usize, Refusal> {
     write(&[&octets[..10], &count.to_be_bytes(), rest], buffer).ok_or(Refusal::Room)
 }
 
+/// RFC 8945 §5.2 and §4.3: what the MAC of a request that came with its TSIG
+/// is taken over.
+pub fn received_request(octets: &[u8], room: usize) -> Result<Vec<u8>, Refusal> {
+    let tsig = read_back(octets)?;
+    fitted(received(octets, &tsig, &[]), room)
+}
+
+/// RFC 8945 §5.3 and §4.3.1: the same of a reply to a request with this MAC.
+pub fn received_reply(mac: &[u8], octets: &[u8], room: usize) -> Result<Vec<u8>, Refusal> {
+    let tsig = read_back(octets)?;
+    ensure(mac.len() <= LONGEST_MAC, Refusal::MacSize)?;
+    fitted(received(octets, &tsig, &[&size(mac)?, mac].concat()), room)
+}
+
+/// RFC 8945 §5.3.1: of a later message of a stream, behind the MAC of the last
+/// one that had a TSIG and the messages since.
+pub fn received_later(
+    mac: &[u8],
+    before: &[u8],
+    octets: &[u8],
+    room: usize,
+) -> Result<Vec<u8>, Refusal> {
+    let tsig = read_back(octets)?;
+    ensure(mac.len() <= LONGEST_MAC, Refusal::MacSize)?;
+    let rest = unsigned(octets, &tsig);
+    let numbers = (tsig.time_signed, tsig.fudge, tsig.original_id);
+    fitted(later(mac, before, &rest, numbers)?, room)
+}
+
+/// RFC 8945 §5.3.1, for the sender: time signed, fudge and original ID are all
+/// that the TSIG has a part in.
+pub fn digest_later(
+    mac: &[u8],
+    before: &[u8],
+    octets: &[u8],
+    numbers: (u64, u16, u16),
+    room: usize,
+) -> Result<Vec<u8>, Refusal> {
+    let message = read(octets)?;
+    ensure(!message.has_tsig(), Refusal::Format)?;
+    ensure(numbers.0 < SIGNED_LIMIT, Refusal::Time)?;
+    ensure(mac.len() <= LONGEST_MAC, Refusal::MacSize)?;
+    fitted(later(mac, before, octets, numbers)?, room)
+}
+
+fn later(
+    mac: &[u8],
+    before: &[u8],
+    octets: &[u8],
+    (time, fudge, id): (u64, u16, u16),
+) -> Result<Vec<u8>, Refusal> {
+    let pieces: [&[u8]; 7] = [
+        &size(mac)?,
+        mac,
+        before,
+        &id.to_be_bytes(),
+        &octets[2..],
+        &time.to_be_bytes()[2..],
+        &fudge.to_be_bytes(),
+    ];
+    Ok(pieces.concat())
+}
+
+/// The message as it was before its TSIG.
+fn unsigned(octets: &[u8], tsig: &Tsig) -> Vec<u8> {
+    let count = additional_count(octets) - 1;
+    [&octets[..10], &count.to_be_bytes(), &octets[12..tsig.place]].concat()
+}
+
+/// RFC 8945 §4.3.2 and §4.3.3, by what the message's own TSIG says.
+fn received(octets: &[u8], tsig: &Tsig, front: &[u8]) -> Vec<u8> {
+    let pieces: [&[u8]; 12] = [
+        front,
+        &tsig.original_id.to_be_bytes(),
+        &unsigned(octets, tsig)[2..],
+        &tsig.name.octets().to_ascii_lowercase(),
+        &ANY.to_be_bytes(),
+        &0u32.to_be_bytes(), // TTL
+        &tsig.algorithm.to_ascii_lowercase(),
+        &tsig.time_signed.to_be_bytes()[2..],
+        &tsig.fudge.to_be_bytes(),
+        &tsig.error.to_be_bytes(),
+        &(tsig.other_data.len() as u16).to_be_bytes(),
+        tsig.other_data,
+    ];
+    pieces.concat()
+}
+
+fn fitted(octets: Vec<u8>, room: usize) -> Result<Vec<u8>, Refusal> {
+    ensure(octets.len() <= room, Refusal::Room)?;
+    Ok(octets)
+}
+
 /// CR 3: the first two refusals.
 fn read(octets: &[u8]) -> Result<Message<'_>, Refusal> {
     ensure(is_sized(octets), Refusal::Size)?;

@@ -142,6 +142,11 @@ impl<'a> Record<'a> {
     pub fn owner(&self) -> Option<Name> {
         names::expand(self.message, self.owner).ok()
     }
+
+    /// RDATA.
+    pub fn data(&self) -> &'a [u8] {
+        self.data
+    }
 }
 
 /// The records of one type.

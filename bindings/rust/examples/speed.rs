@@ -9,7 +9,7 @@
 #[path = "../tests/support/mod.rs"]
 mod support;
 
-use luffcringle::{Answer, Given, Item, Refusal, Span, Table};
+use luffcringle::{Algorithm, Answer, Given, Item, Refusal, Span, Table, TsigError, Verdict};
 use std::hint::black_box;
 use std::path::Path;
 use std::process::Command;
@@ -42,8 +42,8 @@ impl Call<'_> {
         match self {
             Call::Message(octets) => table.message(&good(time, &OFFER), octets, reply),
             Call::Look(octets) => table.look(octets),
-            Call::Enrol(suffix) => table.enrol(time, suffix, TERMS.0, TERMS.1, 256),
-            Call::Issue(pair) => table.issue(time, pair, 256),
+            Call::Enrol(suffix) => table.enrol(time, suffix, TERMS.0, TERMS.1, Algorithm::Sha256),
+            Call::Issue(pair) => table.issue(time, pair, Algorithm::Sha256),
             Call::Revoke(pair) => table.revoke(time, pair),
         }
     }
@@ -226,7 +226,7 @@ fn update() -> Draft {
 fn enrolled(suffixes: impl Iterator<Item = Vec<u8>>) -> Table {
     let mut table = Table::new(NOW).expect("a new table");
     for suffix in suffixes {
-        let answer = table.enrol(NOW, &suffix, TERMS.0, TERMS.1, 256);
+        let answer = table.enrol(NOW, &suffix, TERMS.0, TERMS.1, Algorithm::Sha256);
         answer.expect("enrolled");
     }
     table
@@ -261,11 +261,11 @@ fn measure_calls(offices: Differ) {
     show("adoption", &renewed, Call::Message(&adoption), is_granted);
     let unknown = offices.update(9, NOW);
     show("BADKEY", &table, Call::Message(&unknown), |answer, _| {
-        answer.is_ok_and(|answer| answer.error == 17)
+        answer.is_ok_and(|answer| answer.error == TsigError::BadKey)
     });
     let late = offices.update(1, NOW - 1_000);
     show("BADTIME", &table, Call::Message(&late), |answer, _| {
-        answer.is_ok_and(|answer| answer.error == 18)
+        answer.is_ok_and(|answer| answer.error == TsigError::BadTime)
     });
     show("look", &table, Call::Look(&update), is_signed);
     let less_one = offices.table(63);
@@ -442,7 +442,7 @@ impl Queue {
             let (message, offer) = (from..octets.len(), 0..OFFER.len());
             Item {
                 time: NOW,
-                good: true,
+                mac: Verdict::Good,
                 message: message.into(),
                 offer: offer.into(),
                 ..Item::default()
@@ -463,7 +463,7 @@ impl Queue {
         let call = |item: &Item| {
             let given = Given {
                 time: item.time,
-                good: item.good,
+                mac: item.mac,
                 offer: part(item.offer),
                 ..Given::default()
             };

@@ -1,6 +1,7 @@
 //! What lent words and octets hold, by the layout in the header.
 
-use crate::{Octets, Words};
+use crate::sys::{Octets, Words};
+use crate::words::Algorithm;
 
 /// A table as plain values. Two tables that list alike have equal views,
 /// whatever lies in words without meaning.
@@ -48,8 +49,8 @@ pub enum Keys {
 pub struct Key {
     /// The first label of its name, in decimal.
     pub serial: u64,
-    /// 256, 384 or 512.
-    pub algorithm: u64,
+    /// Its algorithm.
+    pub algorithm: Algorithm,
     /// When it was made.
     pub inception: u64,
     /// From when on it may sign renewals and adoptions alone.
@@ -74,7 +75,7 @@ pub(crate) fn read(words: &Words, suffixes: &Octets) -> Option<View> {
             lifetime: row[2],
             fresh: row[3],
             next_serial: row[4],
-            keys: keys(row)?,
+            keys: keys(&row[5..])?,
         })
     };
     let pairs: Option<Vec<Pair>> = map[..count].iter().enumerate().map(pair).collect();
@@ -96,22 +97,24 @@ fn is_before(one: &[u8], other: &[u8]) -> bool {
     one.iter().map(lower).lt(other.iter().map(lower))
 }
 
-fn keys(row: &[u64; 16]) -> Option<Keys> {
-    Some(match row[5] {
+/// The keys in eleven words: the tag, the adopted key, the waiting key. `None`
+/// where tag or algorithm is unknown.
+pub(crate) fn keys(words: &[u64]) -> Option<Keys> {
+    Some(match words[0] {
         0 => Keys::None,
-        1 => Keys::Adopted(key(&row[6..])?),
+        1 => Keys::Adopted(key(&words[1..])?),
         2 => Keys::Renewing {
-            adopted: key(&row[6..])?,
-            waiting: key(&row[11..])?,
+            adopted: key(&words[1..])?,
+            waiting: key(&words[6..])?,
         },
         _ => return None,
     })
 }
 
 fn key(words: &[u64]) -> Option<Key> {
-    matches!(words[1], 256 | 384 | 512).then(|| Key {
+    Some(Key {
         serial: words[0],
-        algorithm: words[1],
+        algorithm: Algorithm::of(words[1])?,
         inception: words[2],
         partial: words[3],
         expiry: words[4],

@@ -3,7 +3,10 @@
 
 mod support;
 
-use luffcringle::{Answer, Given, Item, Key, Keys, Octets, Refusal, Span, Table, Words};
+use luffcringle::{
+    Algorithm, Answer, Given, Item, Key, Keys, Octets, Refusal, Span, Table, TsigError, Verdict,
+    Words,
+};
 use luffcringle::{MOST_ITEMS, TABLE_OCTETS, TABLE_WORDS};
 use support::build::{key_record, name, Draft, FILL, RENEWALS};
 use support::*;
@@ -13,7 +16,7 @@ const A: &str = "a.example.";
 /// One pair with a key from 1000 to 1600, fresh until 1400.
 fn day() -> Table {
     let mut table = Table::new(1000).expect("a new table");
-    let answer = table.enrol(1000, &name(A), 600, 400, 256);
+    let answer = table.enrol(1000, &name(A), 600, 400, Algorithm::Sha256);
     assert_eq!(answer, Ok(key(1)));
     table
 }
@@ -59,7 +62,7 @@ fn office(pair: u64) -> String {
 fn offices(count: u64) -> Table {
     let mut table = Table::new(1000).expect("a new table");
     for pair in 1..=count {
-        let answer = table.enrol(1000, &name(&office(pair)), 600, 400, 256);
+        let answer = table.enrol(1000, &name(&office(pair)), 600, 400, Algorithm::Sha256);
         assert_eq!(answer, Ok(key_of(pair, 1)));
         match pair % 3 {
             0 => table = give_waiting_key(&table, pair),
@@ -79,7 +82,7 @@ fn offices(count: u64) -> Table {
 fn whole(message: &[u8]) -> Item {
     Item {
         time: 1001,
-        good: true,
+        mac: Verdict::Good,
         message: (0..message.len()).into(),
         ..Item::default()
     }
@@ -96,8 +99,8 @@ fn refused_by_all(table: &Table, what: &str) {
     let mut lent = table.clone();
     let mut reply = [FILL; 512];
     let refused = [
-        lent.enrol(1001, &name("new.example."), 600, 400, 256),
-        lent.issue(1001, 1, 256),
+        lent.enrol(1001, &name("new.example."), 600, 400, Algorithm::Sha256),
+        lent.issue(1001, 1, Algorithm::Sha256),
         lent.revoke(1001, 1),
         lent.look(&message),
         lent.message(&good(1001, &[5]), &message, &mut reply),
@@ -286,7 +289,7 @@ fn the_view_is_in_order_of_enrolment() {
     assert_eq!((view.clock, view.pairs.len()), (1000, 64));
     let first = Key {
         serial: 1,
-        algorithm: 256,
+        algorithm: Algorithm::Sha256,
         inception: 1000,
         partial: 1400,
         expiry: 1600,
@@ -314,9 +317,9 @@ fn serials_run_out() {
     let limit = 1 << 32;
     let next = row(0) + NEXT_SERIAL;
     let mut table = edited(&day(), |words, _| words[next] = limit - 1);
-    assert_eq!(table.issue(1000, 1, 256), Ok(key(limit - 1)));
+    assert_eq!(table.issue(1000, 1, Algorithm::Sha256), Ok(key(limit - 1)));
     assert_eq!(table.parts().0[next], limit);
-    assert_eq!(table.issue(1000, 1, 256), Err(Refusal::Spent));
+    assert_eq!(table.issue(1000, 1, Algorithm::Sha256), Err(Refusal::Spent));
 }
 
 #[test]
@@ -332,7 +335,8 @@ fn a_waiting_key_is_deleted_alone() {
     assert_eq!(reply, their_reply);
     let answer = answer.expect("done");
     assert!(answer.length > 0);
-    assert_eq!((answer.error, answer.pair, answer.serial), (0, 1, 1));
+    let signed_by = (answer.error, answer.pair, answer.serial);
+    assert_eq!(signed_by, (TsigError::None, 1, 1));
     let keys = |table: &Table| table.view().expect("a table").pairs[0].keys;
     assert_eq!(keys(&table), keys(&day()));
     assert_eq!(table_of(&table), theirs);
@@ -358,7 +362,7 @@ fn a_renewal_of_each_scheme() {
         ] {
             let given = Given {
                 offer,
-                fits,
+                keying: Verdict::from(fits),
                 record,
                 ..good(1200, &[])
             };
@@ -444,7 +448,7 @@ fn a_refusal_leaves_all_but_the_clock() {
     let secret = &Draft::renewal_by(4097, "1.a.example.").signed("1.a.example.", 1001);
     let record = &key_record();
     let fitting = |record| Given {
-        fits: true,
+        keying: Verdict::Good,
         record,
         ..good(1001, &[5])
     };
@@ -460,22 +464,36 @@ fn a_refusal_leaves_all_but_the_clock() {
     refused(Refusal::Room, 1001, |t, r| {
         t.message(&fitting(record), secret, r)
     });
-    refused(Refusal::Time, 1000, |t, _| t.issue(late, 1, 256));
-    refused(Refusal::Clock, 1000, |t, _| t.issue(999, 1, 256));
-    refused(Refusal::NoPair, 1001, |t, _| t.issue(1001, 0, 256));
-    refused(Refusal::NoPair, 1001, |t, _| t.issue(1001, 2, 256));
-    refused(Refusal::NoPair, 1001, |t, _| t.issue(1001, u64::MAX, 256));
-    refused(Refusal::Term, 1001, |t, _| t.issue(1001, 1, 1));
+    refused(Refusal::Time, 1000, |t, _| {
+        t.issue(late, 1, Algorithm::Sha256)
+    });
+    refused(Refusal::Clock, 1000, |t, _| {
+        t.issue(999, 1, Algorithm::Sha256)
+    });
+    refused(Refusal::NoPair, 1001, |t, _| {
+        t.issue(1001, 0, Algorithm::Sha256)
+    });
+    refused(Refusal::NoPair, 1001, |t, _| {
+        t.issue(1001, 2, Algorithm::Sha256)
+    });
+    refused(Refusal::NoPair, 1001, |t, _| {
+        t.issue(1001, u64::MAX, Algorithm::Sha256)
+    });
+    refused(Refusal::Term, 1001, |t, _| issue_numbered(t, 1001, 1, 1));
     refused(Refusal::Clock, 1000, |t, _| t.revoke(999, 1));
     refused(Refusal::NoPair, 1001, |t, _| t.revoke(1001, 2));
     refused(Refusal::NoKey, 1600, |t, _| t.revoke(1600, 1));
-    refused(Refusal::Clock, 1000, |t, _| t.enrol(999, b, 600, 400, 256));
-    refused(Refusal::Name, 1001, |t, _| {
-        t.enrol(1001, &[0], 600, 400, 256)
+    refused(Refusal::Clock, 1000, |t, _| {
+        t.enrol(999, b, 600, 400, Algorithm::Sha256)
     });
-    refused(Refusal::Term, 1001, |t, _| t.enrol(1001, b, 400, 400, 256));
+    refused(Refusal::Name, 1001, |t, _| {
+        t.enrol(1001, &[0], 600, 400, Algorithm::Sha256)
+    });
+    refused(Refusal::Term, 1001, |t, _| {
+        t.enrol(1001, b, 400, 400, Algorithm::Sha256)
+    });
     refused(Refusal::Twin, 1001, |t, _| {
-        t.enrol(1001, &name("A.Example."), 600, 400, 256)
+        t.enrol(1001, &name("A.Example."), 600, 400, Algorithm::Sha256)
     });
     refused(Refusal::Size, 1000, |t, _| t.look(&[]));
     refused(format(12), 1000, |t, _| t.look(missing));
@@ -501,7 +519,7 @@ fn a_refusal_has_its_number_and_its_place() {
 fn a_full_table_takes_no_more() {
     let before = with_junk(&offices(64), &mut Random(4));
     let mut table = before.clone();
-    let answer = table.enrol(1001, &name("new.example."), 600, 400, 256);
+    let answer = table.enrol(1001, &name("new.example."), 600, 400, Algorithm::Sha256);
     assert_eq!(answer, Err(Refusal::Full));
     let expected = edited(&before, |words, _| words[CLOCK] = 1001);
     assert!(is_left(&expected, &table));
@@ -535,7 +553,7 @@ fn a_call_changes_its_own_pair_alone() {
                 assert_eq!((answer.pair, answer.serial), (pair, serial));
                 Ok(answer)
             };
-            let issued = changes_its_own(&before, pair, |t| t.issue(1001, pair, 256));
+            let issued = changes_its_own(&before, pair, |t| t.issue(1001, pair, Algorithm::Sha256));
             let serial = issued.view().expect("a table").pairs[pair as usize - 1].next_serial - 1;
             let own = |table: &Table, draft: Draft| {
                 changes_its_own(table, pair, |t| send(t, draft.clone(), serial))
@@ -641,10 +659,10 @@ fn a_batch_is_its_messages_one_by_one() {
         message.extend(vec![0; usize::from(turn % 7 == 6)]);
         items.push(Item {
             time: 1001 + turn / 8 - turn % 9 / 8,
-            good: turn % 5 != 4,
+            mac: (turn % 5 != 4).into(),
             message: lay(&message),
             offer: lay(&[turn as u8; 3]),
-            fits: turn % 6 != 5,
+            keying: (turn % 6 != 5).into(),
             record: lay(&key_record()[usize::from(turn % 11 == 10)..]),
         });
     }
@@ -659,9 +677,9 @@ fn a_batch_is_its_messages_one_by_one() {
             for (item, answer) in items.iter().zip(answers) {
                 let given = Given {
                     time: item.time,
-                    good: item.good,
+                    mac: item.mac,
                     offer: part(item.offer),
-                    fits: item.fits,
+                    keying: item.keying,
                     record: part(item.record),
                 };
                 let one = by_one.message(&given, part(item.message), left);
@@ -768,8 +786,8 @@ fn junk_changes_nothing_and_stays() {
     let lone = name("lone.example.");
     type Call<'a> = &'a dyn Fn(&mut Table, &mut [u8]) -> Result<Answer, Refusal>;
     let calls: [Call; 7] = [
-        &|t, _| t.enrol(1001, &lone, 600, 400, 256),
-        &|t, _| t.issue(1001, 4, 512),
+        &|t, _| t.enrol(1001, &lone, 600, 400, Algorithm::Sha256),
+        &|t, _| t.issue(1001, 4, Algorithm::Sha512),
         &|t, _| t.revoke(1001, 3),
         &|t, _| t.look(&message),
         &|t, r| t.message(&good(1001, &[5]), &message, r),
@@ -818,7 +836,7 @@ fn a_new_table_over_junk() {
         let mut theirs = second::new(1000).expect("new");
         for pair in 1..=64 {
             let suffix = name(&office(pair));
-            let answer = table.enrol(1000, &suffix, 600, 400, 384);
+            let answer = table.enrol(1000, &suffix, 600, 400, Algorithm::Sha384);
             let expected = second::enrol(&mut theirs, 1000, &suffix, 600, 400, 384);
             assert_eq!(answer, as_ours(expected));
         }

@@ -3,10 +3,12 @@
 
 mod support;
 
-use luffcringle::{Answer, Given, Item, Refusal, Span, Table};
-use std::fmt::Write;
+use luffcringle::resolver::Resolver;
+use luffcringle::{Algorithm, Answer, Given, Item, Refusal, Span, Table};
 use std::path::{Path, PathBuf};
-use support::{changed, row, row_of, table_of, with_junk, Random};
+use support::words::{hex_or_none, number, octets, verdict_of};
+use support::{changed, enrol_numbered, issue_numbered, row, row_of, table_of, with_junk, Random};
+use support::{office_lines, signing_lines};
 use support::{CLOCK, COUNT, LIFETIME, MAP, ROW_WORDS};
 
 const LONGEST_LINE: usize = 200_000;
@@ -21,6 +23,7 @@ type CallResult = Result<Answer, Refusal>;
 /// else before every line.
 struct Runner {
     table: Table,
+    resolver: Resolver,
     junk: Option<Random>,
     line: u64,
     reply: Vec<u8>,
@@ -30,6 +33,7 @@ impl Runner {
     fn new(junk: Option<Random>) -> Runner {
         Runner {
             table: Table::new(0).expect("0 is a time"),
+            resolver: office_lines::nobody(),
             junk,
             line: 0,
             reply: vec![0; MOST_BATCH_ROOM],
@@ -54,6 +58,10 @@ impl Runner {
             check_batch_kept(self.line, &before, &self.table, &result);
             return printed_batch(result, &self.reply);
         }
+        let office = office_lines::line(&mut self.resolver, &words);
+        if let Some(printed) = office.or_else(|| signing_lines::line(&words)) {
+            return printed;
+        }
         let result = self.call(&words);
         check_kept(self.line, line, &before, &self.table, result);
         match result {
@@ -67,15 +75,21 @@ impl Runner {
         let table = &mut self.table;
         Some(match *words {
             ["new", time] => table.clear(number(time)?),
-            ["enrol", time, suffix, lifetime, fresh, algorithm] => table.enrol(
-                number(time)?,
-                &octets(suffix)?,
-                number(lifetime)?,
-                number(fresh)?,
-                number(algorithm)?,
-            ),
+            ["enrol", time, suffix, lifetime, fresh, algorithm] => {
+                let (time, suffix) = (number(time)?, octets(suffix)?);
+                let [lifetime, fresh] = [number(lifetime)?, number(fresh)?];
+                let algorithm = number(algorithm)?;
+                match Algorithm::of(algorithm) {
+                    Some(known) => table.enrol(time, &suffix, lifetime, fresh, known),
+                    None => enrol_numbered(table, time, &suffix, [lifetime, fresh], algorithm),
+                }
+            }
             ["issue", time, pair, algorithm] => {
-                table.issue(number(time)?, number(pair)?, number(algorithm)?)
+                let (time, pair, algorithm) = (number(time)?, number(pair)?, number(algorithm)?);
+                match Algorithm::of(algorithm) {
+                    Some(known) => table.issue(time, pair, known),
+                    None => issue_numbered(table, time, pair, algorithm),
+                }
             }
             ["revoke", time, pair] => table.revoke(number(time)?, number(pair)?),
             ["look", message] => table.look(&octets(message)?),
@@ -94,9 +108,9 @@ impl Runner {
         let [time, verdict, offer, room, message, fits, record] = words;
         let given = Given {
             time: number(time)?,
-            good: is_good(verdict)?,
+            mac: verdict_of(verdict)?,
             offer: &octets(offer)?,
-            fits: is_good(fits)?,
+            keying: verdict_of(fits)?,
             record: &octets(record)?,
         };
         let room = number(room)?.min(MOST_ROOM as u64) as usize;
@@ -124,10 +138,10 @@ fn item(words: &[&str]) -> Option<Item> {
     };
     Some(Item {
         time: number(time)?,
-        good: is_good(verdict)?,
+        mac: verdict_of(verdict)?,
         message: span(from, size)?,
         offer: span(offer_from, offer_size)?,
-        fits: is_good(fits)?,
+        keying: verdict_of(fits)?,
         record: span(record_from, record_size)?,
     })
 }
@@ -141,11 +155,8 @@ fn printed(result: CallResult, reply: &[u8]) -> String {
     let number = result.err().map_or(0, Refusal::number);
     let place = result.err().map_or(0, Refusal::place);
     let answer = result.unwrap_or_default();
-    let reply = match answer.length {
-        0 => "-".to_string(),
-        length => hex(&reply[..length]),
-    };
-    let (length, error, skew) = (answer.length, answer.error, answer.skew);
+    let reply = hex_or_none(&reply[..answer.length]);
+    let (length, error, skew) = (answer.length, answer.error.number(), answer.skew);
     let (pair, serial) = (answer.pair, answer.serial);
     format!("{number} {length} {error} {skew} {pair} {serial} {reply} {place}\n")
 }
@@ -222,39 +233,6 @@ fn is_of_pair(table: &Table, pair: u64, word: usize) -> bool {
     }
 }
 
-fn number(word: &str) -> Option<u64> {
-    let is_plain = word.bytes().all(|octet| octet.is_ascii_digit());
-    is_plain.then(|| word.parse().ok()).flatten()
-}
-
-fn is_good(word: &str) -> Option<bool> {
-    match word {
-        "good" => Some(true),
-        "bad" => Some(false),
-        _ => None,
-    }
-}
-
-fn octets(word: &str) -> Option<Vec<u8>> {
-    if word == "-" {
-        return Some(Vec::new());
-    }
-    let digits: Option<Vec<u8>> = word.chars().map(digit).collect();
-    let digits = digits.filter(|digits| !digits.is_empty() && digits.len() % 2 == 0)?;
-    Some(digits.chunks(2).map(|two| two[0] << 4 | two[1]).collect())
-}
-
-fn digit(digit: char) -> Option<u8> {
-    digit.to_digit(16).map(|value| value as u8)
-}
-
-fn hex(octets: &[u8]) -> String {
-    octets.iter().fold(String::new(), |mut text, octet| {
-        write!(text, "{octet:02x}").expect("a string takes all");
-        text
-    })
-}
-
 fn listing(table: &Table) -> String {
     let mut out = Vec::new();
     second::script::print_listing(&table_of(table), &mut out);
@@ -295,10 +273,24 @@ fn example(name: &str) -> Vec<u8> {
     )
 }
 
+fn as_expected(name: &str) {
+    let printed = agree(&example(&format!("{name}.script")));
+    assert_eq!(printed.as_bytes(), example(&format!("{name}.expected")));
+}
+
 #[test]
 fn the_worked_day() {
-    let printed = agree(&example("day.script"));
-    assert_eq!(printed.as_bytes(), example("day.expected"));
+    as_expected("day");
+}
+
+#[test]
+fn an_exchange_of_both_halves() {
+    as_expected("exchange");
+}
+
+#[test]
+fn the_octets_under_a_signature() {
+    as_expected("signing");
 }
 
 /// The script that LUFFCRINGLE_SCRIPT names, if it is set.

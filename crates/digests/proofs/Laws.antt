@@ -4,12 +4,13 @@ use mathlib.Core.Path.{_≡_, refl}
 use mathlib.Core.List.{List, [], _∷_, _++_, append-assoc}
 use native.Mathlib.Numerals.{add-one}
 use native.Mathlib.Omega.{arith}
-use lib.ListN.{length, take, drop, getD, length-drop}
+use lib.ListN.{length, take, drop, getD, length-drop, length-append}
 use lib.Seq.{take-suc, take-all}
 use Rattle.model.specs.Octets.{be16, be32, be48}
 use Rattle.model.specs.Names.{lowerOf}
 use Rattle.model.specs.Tsig.{anyClass}
-use Rattle.model.specs.Signing.{Stamp, canonical, tsigData, variables, withId, requestDigest}
+use Rattle.model.specs.Signing.{Stamp, canonical, tsigData, variables, withId, requestDigest, replyDigest}
+use Rattle.model.specs.Received.{timers, laterDigest}
 use Rattle.octets.specs.Wrote.{Wrote}
 use Rattle.octets.proofs.Laws.{then, wrote-as}
 use Rattle.octets.proofs.Back.{wrote-none}
@@ -76,3 +77,27 @@ module _ (t : Stamp) where
   pub digest-octets : (m name : List ℕ) → be16 (t .originalId) ++ (take (length m - 2) (drop 2 m) ++ variables name t) ≡ requestDigest m name t
   unfolding requestDigest withId
   digest-octets m name = rw to-end (simp append-assoc)
+
+  -- a later message x of a stream, under its original ID
+  pub later-octets : (prior before m x : List ℕ) → x ≡ withId (t .originalId) m
+      → (be16 (length prior) ++ (prior ++ before)) ++ (x ++ (be48 (t .signed) ++ be16 (t .fudge))) ≡ laterDigest prior before m t
+  unfolding laterDigest timers
+  later-octets prior before m x e = rw e (simp append-assoc)
+
+-- ── Lengths ─────────────────────────────────────────────────────────────────────────────────────────────────────────
+
+module _ (m name : List ℕ) (t : Stamp) (from : 12 ≤ length m) where
+  pub request-length : length (requestDigest m name t) ≡ length m + length name + length (t .algorithm) + 18 + length (t .other)
+  unfolding requestDigest withId variables be16 be32 be48
+  request-length =
+      let l₁ = canonical-length name in
+      let l₂ = canonical-length (t .algorithm) in
+      simp (length-append, length-drop) (omega arith)
+
+  pub reply-length : (mac : List ℕ) → length (replyDigest mac m name t) ≡ length mac + length m + length name + length (t .algorithm) + 20 + length (t .other)
+  unfolding replyDigest be16
+  reply-length mac = let l = request-length in simp length-append (omega arith)
+
+  pub later-length : (prior before : List ℕ) → length (laterDigest prior before m t) ≡ length prior + length before + length m + 10
+  unfolding laterDigest timers withId be16 be32 be48
+  later-length prior before = simp (length-append, length-drop) (omega arith)

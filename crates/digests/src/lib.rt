@@ -45,7 +45,7 @@ fn canonical_into(buf: &mut [u8], at: usize, name: &[u8]) -> usize
 }
 
 // Time signed and fudge.
-fn signed_into(buf: &mut [u8], at: usize, numbers: TsigNumbers) -> usize
+pub fn signed_into(buf: &mut [u8], at: usize, numbers: TsigNumbers) -> usize
     requires { ⌜ (at + 8 ≤ length (now buf)) × (numbers .signed < 2 ^ 48) ⌝ }
     ensures { λ r. ⌜ (r ≡ at + 8) × Wrote (be48 (numbers .signed) ++ be16 (numbers .fudge)) at (now (buf .entry)) (now (buf .exit)) r ⌝ }
 {
@@ -65,7 +65,7 @@ fn other_into(buf: &mut [u8], at: usize, numbers: TsigNumbers, other: &[u8]) -> 
 }
 
 // The TSIG variables (RFC 8945, 4.3.3).
-fn variables_into(
+pub fn variables_into(
     buf: &mut [u8],
     at: usize,
     name: &[u8],
@@ -136,4 +136,34 @@ pub fn counted_into(buf: &mut [u8], m: &[u8], count: usize, end: usize) -> usize
     let a = octets::part_into(buf, 0, m, 0, 10);
     let b = octets::u16_into(buf, a, count);
     octets::part_into(buf, b, m, 12, end - 12)
+}
+
+// The message m up to `end`, from `at` on, under this ID and with this count of additional records in its header.
+pub fn renumbered_into(
+    buf: &mut [u8],
+    at: usize,
+    m: &[u8],
+    id: usize,
+    count: usize,
+    end: usize,
+) -> usize
+    requires { ⌜ (at + end ≤ length (now buf)) × (12 ≤ end) × (end ≤ length (now m)) × (id < 65536) × (count < 65536) ⌝ }
+    ensures { λ r. ⌜ (r ≡ at + end)
+        × Wrote (be16 id ++ (part (now (m .entry)) 2 8 ++ (be16 count ++ part (now (m .entry)) 12 (end - 12)))) at (now (buf .entry)) (now (buf .exit)) r ⌝ }
+{
+    let a = octets::u16_into(buf, at, id);
+    let b = octets::part_into(buf, a, m, 2, 8);
+    let d = octets::u16_into(buf, b, count);
+    octets::part_into(buf, d, m, 12, end - 12)
+}
+
+// What stands in front of a later message of a stream (RFC 8945, 5.3.1): the prior MAC, its length first, and the messages without a TSIG since then.
+pub fn prior_into(buf: &mut [u8], prior: &[u8], before: &[u8]) -> usize
+    requires { ⌜ (2 + length (now prior) + length (now before) ≤ length (now buf)) × (length (now prior) ≤ 64) ⌝ }
+    ensures { λ r. ⌜ (r ≡ 2 + length (now (prior .entry)) + length (now (before .entry)))
+        × Wrote (be16 (length (now (prior .entry))) ++ (now (prior .entry) ++ now (before .entry))) 0 (now (buf .entry)) (now (buf .exit)) r ⌝ }
+{
+    let a = octets::u16_into(buf, 0, prior.len());
+    let b = octets::all_into(buf, a, prior);
+    octets::all_into(buf, b, before)
 }

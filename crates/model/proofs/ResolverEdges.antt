@@ -25,44 +25,44 @@ use Rattle.model.proofs.Requests.{suffix, headerOf, question, stampFor,
 use Rattle.model.proofs.Running.{after}
 
 -- Every definition of the resolver's half opened.
-unfoldable open-all : Resolver → Resolver
+unfoldable pub open-all : Resolver → Resolver
 unfolding after LOST WRONGID UNSIGNED FORMAT ROOM NOKEY nameOf usable adoptedKey offeredKey opened noted closed unwritten sent requestOctets oldKey renewalOctets adoptionOctets deletionOctets writtenRenewal writtenAdoption writtenDeletion writtenInto answerOther answerKey answerTimes answerOf answers onlyAnswer keyless unheard rcodeOf accepted heard readReply
 open-all s = s
 
 -- ── States and replies ──────────────────────────────────────────────────────────────────────────────────────────────
 
 -- A key of a.example., its name in the first 13 octets.
-abbrev keyOf : ℕ → Algorithm → ℕ → ℕ → ResolverKey
+abbrev pub keyOf : ℕ → Algorithm → ℕ → ℕ → ResolverKey
 keyOf serial g inception expiration =
     record { name = keyName serial suffix ++ replicate 242 0; length = 13; algorithm = g; inception = inception; expiration = expiration }
 
-abbrev first : ResolverKey
+abbrev pub first : ResolverKey
 first = keyOf 1 Sha256 1000 1600
 
-abbrev second : ResolverKey
+abbrev pub second : ResolverKey
 second = keyOf 2 Sha256 1200 1800
 
 -- Keys 1 and 2, this request open, and whether the offered key signs next; with what is asked open under ID 4660, and with that closed.
-abbrev state : Holding → OpenRequest → Bool → Resolver
+abbrev pub state : Holding → OpenRequest → Bool → Resolver
 state holding awaited signs = record { holding = holding; adopted = first; offered = second; awaited = awaited; «offered_signs» = signs }
 
-abbrev awaiting : Asking → Resolver
+abbrev pub awaiting : Asking → Resolver
 awaiting asking = state Holding.AdoptedAndOffered (OpenRequest.Sent 4660 asking) true
 
-abbrev settled : Resolver
+abbrev pub settled : Resolver
 settled = state Holding.AdoptedAndOffered OpenRequest.Nothing true
 
 -- A reply of ID 4660 with these flags, so many answers and additional records, these, and a TSIG of key 1 with this error.
-abbrev reply : ℕ → ℕ → ℕ → List ℕ → ℕ → List ℕ
+abbrev pub reply : ℕ → ℕ → ℕ → List ℕ → ℕ → List ℕ
 reply flags answers additionals records error =
     headerOf 4660 flags 1 answers 0 (suc additionals)
     ++ (question (0 ∷ []) 249 255 ++ (records ++ recordOctets (keyName 1 suffix) 250 255 0 (algorithmName Sha256 ++ stampFor 1300 300 32 error)))
 
 -- A TKEY of key 3, 1300 to 1900: its mode, its error, its algorithm, and octets behind its data.
-abbrev tkey : ℕ → ℕ → List ℕ → List ℕ → List ℕ
+abbrev pub tkey : ℕ → ℕ → List ℕ → List ℕ → List ℕ
 tkey mode error algorithm more = recordOctets (keyName 3 suffix) 249 255 0 (tkeyData algorithm 1300 1900 mode error (7 ∷ 7 ∷ []) [] ++ more)
 
-abbrev good : ℕ → List ℕ
+abbrev pub good : ℕ → List ℕ
 good mode = reply 0x8000 1 0 (tkey mode 0 (algorithmName Sha256) []) 0
 
 -- ── Reading: refusals ───────────────────────────────────────────────────────────────────────────────────────────────
@@ -71,14 +71,14 @@ good mode = reply 0x8000 1 0 (tkey mode 0 (algorithmName Sha256) []) 0
 abbrev left : Resolver → ℕ → Heard
 left s n = record { number = n; due = false; state = s }
 
-abbrev lost : Resolver
+abbrev pub lost : Resolver
 lost = state Holding.AdoptedAndOffered OpenRequest.Nothing true
 
-abbrev otherId : Resolver
+abbrev pub otherId : Resolver
 otherId = state Holding.AdoptedAndOffered (OpenRequest.Sent 4661 Renewal) true
 
 -- A reply with no TSIG.
-abbrev bare : List ℕ
+abbrev pub bare : List ℕ
 bare = headerOf 4660 0x8000 1 1 0 0 ++ (question (0 ∷ []) 249 255 ++ tkey 4098 0 (algorithmName Sha256) [])
 
 -- A reply of 65,558 octets, with one record.
@@ -185,7 +185,7 @@ abbrev written : List ℕ → ℕ → SignWith → Resolver → Writing
 written octets length signer s = record { result = record { number = 0; length = length; signer = signer; state = s }; octets = octets }
 
 -- Each below has an ordinary message open. "A new request replaces the open one."
-abbrev before : Resolver
+abbrev pub before : Resolver
 before = state Holding.AdoptedAndOffered (OpenRequest.Sent 1 Ordinary) true
 
 -- A renewal for the root's name, hmac-sha384, 1200 to 1800, with the KEY record lent; it is signed with the adopted key and takes no turn.

@@ -12,13 +12,13 @@ use Rattle.model.specs.Tsig.{tsigType, anyClass}
 use Rattle.model.specs.Replies.{recordOctets}
 use Rattle.model.specs.Checks.{check}
 use Rattle.model.specs.Calls.{ROOM, roomFor}
-use Rattle.model.specs.Signing.{MACSIZE, Stamp, tsigData, finished, variables, withId, requestDigest, replyDigest, Assembled, unassembled, signable, macOk, assembled, digestedRequest, digestedReply, finishedIn}
+use Rattle.model.specs.Signing.{MACSIZE, Stamp, tsigData, finished, requestDigest, replyDigest, Assembled, unassembled, signable, macOk, assembled, digestedRequest, digestedReply, finishedIn}
 use Rattle.octets.specs.Wrote.{Wrote}
 use Rattle.replies.specs.Parts.{recordFront}
 use Rattle.replies.proofs.Laws.{record-octets}
 use Rattle.digests.specs.declared.Assembly.{Assembly}
 use Rattle.digests.specs.Left.{Left}
-use Rattle.digests.proofs.Laws.{canonical-length, to-end}
+use Rattle.digests.proofs.Laws.{to-end}
 use Rattle.digests.proofs.Ends.{Refusal, refused, written}
 use Rattle.signing.specs.Assembling.{Fit, Passes, countedOctets}
 
@@ -118,17 +118,6 @@ unfolding tsigData be16 be32 be48
 data-length t = simp length-append (omega arith)
 
 module _ (m name : List ℕ) (t : Stamp) (from : 12 ≤ length m) where
-  pub request-length : length (requestDigest m name t) ≡ length m + length name + length (t .algorithm) + 18 + length (t .other)
-  unfolding requestDigest withId variables be16 be32 be48
-  request-length =
-      let l₁ = canonical-length name in
-      let l₂ = canonical-length (t .algorithm) in
-      simp (length-append, length-drop) (omega arith)
-
-  pub reply-length : (mac : List ℕ) → length (replyDigest mac m name t) ≡ length mac + length m + length name + length (t .algorithm) + 20 + length (t .other)
-  unfolding replyDigest be16
-  reply-length mac = let l = request-length in simp length-append (omega arith)
-
   pub finished-length : length (finished m name t) ≡ length m + length name + length (t .algorithm) + length (t .mac) + 26 + length (t .other)
   unfolding finished recordOctets be16 be32
   finished-length = let l = data-length t in simp (length-append, length-drop, length-take) (omega arith)

@@ -2,3 +2,4 @@
 pub mod Counts
 pub mod Refusals
 pub mod Ends
+pub mod Later

@@ -10,7 +10,8 @@ use Rattle.model.specs.Messages.{readMessage}
 use Rattle.model.specs.Tsig.{signature}
 use Rattle.model.specs.Checks.{check, checkRead}
 use Rattle.model.specs.Calls.{SIZE, FORMAT, sizeOk}
-use Rattle.model.specs.Signing.{Stamp, Assembled, unassembled, isUnsigned, signable}
+use Rattle.model.specs.Signing.{MACSIZE, Stamp, Assembled, unassembled, isUnsigned, signable, macOk}
+use Rattle.model.specs.Received.{inRoom, laterDigest}
 
 -- What is known of a message that passed SIZE and FORMAT: its count of additional records has room for one more.
 pub record Sized (m : List ℕ) : Type 0 where
@@ -41,3 +42,7 @@ pub record Passes (m name algorithm : List ℕ) (signed r : ℕ) : Type 0 where
 -- The message with one more additional record counted.
 unfoldable pub countedOctets : List ℕ → List ℕ
 countedOctets m = take 10 m ++ (be16 (u16At m 10 + 1) ++ drop 12 m)
+
+-- MACSIZE, ROOM, then the digest of a later message: the last steps of digestedLater.
+abbrev pub laterIn : List ℕ → List ℕ → List ℕ → Stamp → ℕ → Assembled
+laterIn prior before m t room = check unassembled MACSIZE (macOk prior) (inRoom room (laterDigest prior before m t))

@@ -1,5 +1,5 @@
-// The writing calls of CR 3 (02; RFC 8945, 4.2 and 4.3): the digest of a request and of a reply, and the finished message. Every value of every argument is
-// accepted. The contracts are equations with the crate model's Signing.
+// The writing calls of CR 3 (02; RFC 8945, 4.2 and 4.3): the digest of a request and of a reply, and the finished message; and the digest of a later message of
+// a stream (5.3.1). Every value of every argument is accepted. The contracts are equations with the crate model's Signing and Received.
 use contents::Reading;
 use digests::Assembly;
 use digests::TsigNumbers;
@@ -11,10 +11,11 @@ ghost use lib.ListN.{length};
 ghost use Rattle.model.specs.Tsig.{tsigType, anyClass};
 ghost use Rattle.model.specs.Replies.{recordOctets};
 ghost use Rattle.model.specs.Signing.{tsigData, digestedRequest, digestedReply, finishedIn};
+ghost use Rattle.model.specs.Received.{digestedLater};
 ghost use Rattle.octets.specs.Wrote.{Wrote};
 ghost use Rattle.digests.specs.Stamps.{stampOf};
 ghost use Rattle.digests.specs.Left.{Left};
-ghost use Rattle.signing.specs.Assembling.{Sized, Bare, Fit, Passes, countedOctets};
+ghost use Rattle.signing.specs.Assembling.{Sized, Bare, Fit, Passes, countedOctets, laterIn};
 
 // MACSIZE: the octets that a given MAC may have.
 const LONGEST_MAC: usize = 64;
@@ -161,6 +162,56 @@ pub fn digest_reply(
         return digests::refused(n);
     }
     reply_in(mac, m, name, algorithm, numbers, other, out)
+}
+
+// ── The digest of a later message of a stream ───────────────────────────────────────────────────────────────────────
+
+// MACSIZE, ROOM, done, of a message that passed the refusals before. `before` may have any length, so that nothing is added to it.
+fn later_in(prior: &[u8], before: &[u8], m: &[u8], numbers: TsigNumbers, out: &mut [u8]) -> Assembly
+    requires { ⌜ Sized (now m) × (numbers .signed < 2 ^ 48) ⌝ }
+    ensures { λ r. ⌜ ((algorithm mac other : List ℕ) → Left
+        (laterIn (now (prior .entry)) (now (before .entry)) (now (m .entry)) (stampOf numbers algorithm mac other) (length (now (out .entry)))) (now (out .entry)) (now (out .exit)) r) ⌝ }
+{
+    if LONGEST_MAC < prior.len() {
+        return digests::refused(16);
+    }
+    if out.len() < before.len() {
+        return digests::refused(8);
+    }
+    if out.len() - before.len() < prior.len() + m.len() + 10 {
+        return digests::refused(8);
+    }
+    let a = digests::prior_into(out, prior, before);
+    let b = octets::u16_into(out, a, numbers.original_id as usize);
+    let d = octets::all_into(out, b, &m[2..]);
+    let end = digests::signed_into(out, d, numbers);
+    Assembly {
+        number: 0,
+        length: end as u64,
+    }
+}
+
+// The digest of a later message m of a stream, which has no TSIG yet (RFC 8945, 5.3.1): `prior` is the MAC of the last message that had one, `before` the
+// messages without one since then, one after another. Of the TSIG, error and other data are not under its MAC, nor are its names. Refused, in this order, with
+// SIZE (4), FORMAT (6), TIME (2), MACSIZE (16), ROOM (8).
+pub fn digest_later(
+    prior: &[u8],
+    before: &[u8],
+    m: &[u8],
+    numbers: TsigNumbers,
+    out: &mut [u8],
+) -> Assembly
+    ensures { λ r. ⌜ ((algorithm mac other : List ℕ) → Left
+        (digestedLater (now (prior .entry)) (now (before .entry)) (now (m .entry)) (stampOf numbers algorithm mac other) (length (now (out .entry)))) (now (out .entry)) (now (out .exit)) r) ⌝ }
+{
+    let n = message_refusal(m);
+    if n != 0 {
+        return digests::refused(n);
+    }
+    if 0x1_0000_0000_0000 <= numbers.signed {
+        return digests::refused(2);
+    }
+    later_in(prior, before, m, numbers, out)
 }
 
 // ── The finished message ────────────────────────────────────────────────────────────────────────────────────────────

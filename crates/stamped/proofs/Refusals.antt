@@ -18,17 +18,17 @@ use Rattle.guarantees.specs.Refusals.{isOne}
 use Rattle.stamped.specs.Refusals.{Writes, Reads, Refusals}
 
 -- A TSIG that must be well placed.
-by-signed : {B : Type 0} (P : B → Type 0) (refuse : ℕ → B) (n : ℕ) → P (refuse n) → (s : Signature) {next : Tsig → B} → ((t : Tsig) → P (next t)) → P (checkSigned refuse n s next)
+pub by-signed : {B : Type 0} (P : B → Type 0) (refuse : ℕ → B) (n : ℕ) → P (refuse n) → (s : Signature) {next : Tsig → B} → ((t : Tsig) → P (next t)) → P (checkSigned refuse n s next)
 by-signed P refuse n r unsigned f = r
 by-signed P refuse n r misplaced f = r
 by-signed P refuse n r (wellPlaced t) f = f t
 
 module _ (numbers buffer : List ℕ) where
-  refused : (n : ℕ) → isOne n (0 ∷ numbers) ≡ true → Writes numbers buffer (unassembled n)
+  pub refused : (n : ℕ) → isOne n (0 ∷ numbers) ≡ true → Writes numbers buffer (unassembled n)
   unfolding unassembled assembledInto put
   refused n e = record { listed = e; leaves = λ _. refl; fits = refl }
 
-  written : (octets : List ℕ) → length octets ≤ length buffer → Writes numbers buffer (record { number = 0; octets = octets })
+  pub written : (octets : List ℕ) → length octets ≤ length buffer → Writes numbers buffer (record { number = 0; octets = octets })
   unfolding assembledInto
   written octets h = record { listed = refl; leaves = λ n. absurd (n refl); fits = put-length octets buffer h }
 

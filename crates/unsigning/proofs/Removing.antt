@@ -83,7 +83,7 @@ module _ (m : List ℕ) (place : ℕ) (l : LastAt m place) where
   unfolding removed part
   removed-is = rw (l .begins) refl
 
-  removed-length : length (removed m) ≡ place
+  pub removed-length : length (removed m) ≡ place
   removed-length =
       let a = part-length m 0 10 (omega arith) in
       let b = be16-length (u16At m 10 - 1) in

@@ -3,8 +3,11 @@
 
 #[path = "../../../../second/tests/desk/build.rs"]
 pub mod build;
+pub mod office_lines;
+pub mod signing_lines;
+pub mod words;
 
-use luffcringle::{Answer, Given, Octets, Refusal, Table, View, Words};
+use luffcringle::{sys, Answer, Given, Octets, Refusal, Table, TsigError, Verdict, View, Words};
 use luffcringle::{TABLE_OCTETS, TABLE_WORDS};
 use second::Algorithm;
 
@@ -81,6 +84,79 @@ pub fn changed(before: &Table, after: &Table) -> Vec<usize> {
     (0..TABLE_WORDS)
         .filter(|&word| before[word] != after[word])
         .collect()
+}
+
+// ---- What the safe types rule out ----
+
+/// Enrol with any number for its algorithm.
+pub fn enrol_numbered(
+    table: &mut Table,
+    time: u64,
+    suffix: &[u8],
+    terms: [u64; 2],
+    algorithm: u64,
+) -> Result<Answer, Refusal> {
+    let (mut words, mut suffixes) = (*table.parts().0, *table.parts().1);
+    let (mut told, [lifetime, fresh]) = ([0; 7], terms);
+    // SAFETY: suffix is as long as told.
+    unsafe {
+        sys::luffcringle_enrol(
+            &mut words,
+            &mut suffixes,
+            time,
+            suffix.as_ptr(),
+            suffix.len(),
+            lifetime,
+            fresh,
+            algorithm,
+            &mut told,
+        )
+    };
+    *table = Table::from_parts(&words, &suffixes);
+    answer_of(told)
+}
+
+/// Issue with any number for its algorithm.
+pub fn issue_numbered(
+    table: &mut Table,
+    time: u64,
+    pair: u64,
+    algorithm: u64,
+) -> Result<Answer, Refusal> {
+    let (mut words, suffixes) = (*table.parts().0, *table.parts().1);
+    let mut told = [0; 7];
+    // SAFETY: the references are all that is lent.
+    unsafe { sys::luffcringle_issue(&mut words, &suffixes, time, pair, algorithm, &mut told) };
+    *table = Table::from_parts(&words, &suffixes);
+    answer_of(told)
+}
+
+/// Of enrol and issue: a pair and a serial, or one of their refusals.
+fn answer_of(told: [u64; 7]) -> Result<Answer, Refusal> {
+    let refusals = [
+        Refusal::Table,
+        Refusal::Time,
+        Refusal::Clock,
+        Refusal::NoPair,
+        Refusal::Spent,
+        Refusal::Name,
+        Refusal::Term,
+        Refusal::Twin,
+        Refusal::Full,
+    ];
+    let [number, _, _, _, pair, serial, _] = told;
+    match number {
+        0 => Ok(Answer {
+            pair,
+            serial,
+            ..Answer::default()
+        }),
+        _ => {
+            let mut all = refusals.into_iter();
+            let found = all.find(|refusal| refusal.number() == number);
+            Err(found.expect("one of their refusals"))
+        }
+    }
 }
 
 // ---- Chance ----
@@ -161,7 +237,7 @@ fn pair_of(pair: &luffcringle::Pair) -> second::Pair {
 fn key_of(key: &luffcringle::Key) -> second::Key {
     second::Key {
         serial: key.serial,
-        algorithm: Algorithm::from_number(key.algorithm).expect("an algorithm"),
+        algorithm: Algorithm::from_number(key.algorithm.number()).expect("an algorithm"),
         inception: key.inception,
         partial: key.partial,
         expiry: key.expiry,
@@ -172,7 +248,7 @@ fn key_of(key: &luffcringle::Key) -> second::Key {
 pub fn good(time: u64, offer: &[u8]) -> Given<'_> {
     Given {
         time,
-        good: true,
+        mac: Verdict::Good,
         offer,
         ..Given::default()
     }
@@ -182,9 +258,9 @@ pub fn good(time: u64, offer: &[u8]) -> Given<'_> {
 pub fn given_to_them<'a>(given: &Given<'a>) -> second::Given<'a> {
     second::Given {
         time: given.time,
-        good: given.good,
+        good: given.mac.is_good(),
         offer: given.offer,
-        fits: given.fits,
+        fits: given.keying.is_good(),
         record: given.record,
     }
 }
@@ -193,11 +269,18 @@ pub fn given_to_them<'a>(given: &Given<'a>) -> second::Given<'a> {
 pub fn as_ours(theirs: Result<second::Done, second::Refusal>) -> Result<Answer, Refusal> {
     theirs.map_err(refusal_of).map(|done| Answer {
         length: done.length,
-        error: done.error,
+        error: tsig_error(done.error),
         skew: done.skew,
         pair: done.pair,
         serial: done.serial,
     })
+}
+
+fn tsig_error(number: u16) -> TsigError {
+    use TsigError::{BadKey, BadSig, BadTime, None, PartialRevoke};
+    let mut all = [None, BadSig, BadKey, BadTime, PartialRevoke].into_iter();
+    let found = all.find(|error| error.number() == number);
+    found.expect("a TSIG error that the table answers")
 }
 
 fn refusal_of(refusal: second::Refusal) -> Refusal {

@@ -4,7 +4,8 @@ use Rattle.digests.specs.Stamps.{stampOf}
 use native.Mathlib.Omega.{arith}
 use Rattle.model.specs.Signing.{replyDigest}
 use Rattle.octets.proofs.Laws.{then}
-use Rattle.signing.proofs.Ends.{too-much, no-room, in-room, reply-goes, reply-mac, reply-length}
+use Rattle.signing.proofs.Ends.{too-much, no-room, in-room, reply-goes, reply-mac}
+use Rattle.digests.proofs.Laws.{reply-length}
 use borrow.Author.Needs.{needs}
 use Rattle.signing.proofs.reply_in.Statement.{statement}
 use Rattle.signing.proofs.reply_in.Tie as tie

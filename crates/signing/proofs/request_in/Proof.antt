@@ -3,7 +3,8 @@ use denote.Ref.{now}
 use Rattle.digests.specs.Stamps.{stampOf}
 use native.Mathlib.Omega.{arith}
 use Rattle.model.specs.Signing.{requestDigest}
-use Rattle.signing.proofs.Ends.{too-much, no-room, in-room, request-goes, request-length}
+use Rattle.signing.proofs.Ends.{too-much, no-room, in-room, request-goes}
+use Rattle.digests.proofs.Laws.{request-length}
 use borrow.Author.Needs.{needs}
 use Rattle.signing.proofs.request_in.Statement.{statement}
 use Rattle.signing.proofs.request_in.Tie as tie

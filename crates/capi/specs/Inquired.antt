@@ -1,0 +1,42 @@
+-- What an inquiry for C leaves: the words that it writes, and the number that it returns. Assumes nothing.
+use Prim.Native.Nat.{ℕ, _+_, _≤_}
+use mathlib.Core.List.{List, [], _∷_}
+use mathlib.Core.Option.{Option, none, some}
+use mathlib.Core.Path.{_≡_}
+use lib.ListN.{length, getD, take, drop, replicate}
+use Rattle.model.specs.declared.FoundPair.{FoundPair}
+use Rattle.model.specs.declared.Moves.{Moves}
+use Rattle.model.specs.Octets.{part, put}
+use Rattle.model.specs.Calls.{DONE}
+use Rattle.model.specs.Inquiries.{Spelt, Asks}
+
+-- A pair's number is told: 0 where the inquiry is refused.
+pub record FoundTold (a : FoundPair) (words : List ℕ) (r : ℕ) : Type 0 where
+  pub written : words ≡ a .pair ∷ []
+  pub returned : r ≡ a .number
+
+-- Octets fill the first of a buffer that is b at entry and b′ at exit, and how many they are is told; a refusal leaves the buffer as it was, and tells 0.
+pub record SpeltTold (a : Spelt) (b b′ words : List ℕ) (r : ℕ) : Type 0 where
+  pub left : b′ ≡ put (a .octets) b
+  pub written : words ≡ length (a .octets) ∷ []
+  pub returned : r ≡ a .number
+
+unfoldable pub movesWords : Moves → List ℕ
+movesWords m = m .made ∷ m .adopted ∷ m .ended ∷ m .dropped ∷ []
+
+-- The data of a KEY record is the part of the message m of `size` octets from `place` on. Where there is no such record, both are 0.
+abbrev pub KeyTold : List ℕ → ℕ → ℕ → Option (List ℕ) → Type 0
+KeyTold m place size none = (place ≡ 0) × (size ≡ 0)
+KeyTold m place size (some content) = (part m place size ≡ content) × (place + size ≤ length m)
+
+-- What the message m asks for is told in nine words: the place where reading failed, mode, algorithm, inception, expiration; place and size of the key data in
+-- the message; place and size of the KEY record's data.
+pub record AsksTold (m : List ℕ) (a : Asks) (words : List ℕ) (r : ℕ) : Type 0 where
+  pub nine : length words ≡ 9
+  pub numbers : take 5 words ≡ a .place ∷ a .mode ∷ a .algorithm ∷ a .inception ∷ a .expiration ∷ []
+  pub key : part m (getD words 5 0) (getD words 6 0) ≡ a .key
+  pub within : getD words 5 0 + getD words 6 0 ≤ length m
+  pub second : KeyTold m (getD words 7 0) (getD words 8 0) (a .second)
+  pub returned : r ≡ a .number
+  -- a refusal tells the place alone
+  pub refused : (r ≡ DONE → ⊥) → drop 1 words ≡ replicate 8 0

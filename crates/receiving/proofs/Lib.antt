@@ -1,0 +1,4 @@
+-- The laws that proofs of this crate cite.
+pub mod Pieces
+pub mod Back
+pub mod Parts

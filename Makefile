@@ -12,7 +12,7 @@ INCLUDEDIR ?= $(PREFIX)/include
 LIBDIR ?= $(PREFIX)/lib
 INSTALL ?= install
 
-version := 0.2.0
+version := 0.3.0
 built := target/staticlib
 office_crates := capi_signing capi_resolver capi_version
 crates := capi $(office_crates)

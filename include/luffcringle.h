@@ -25,7 +25,7 @@ extern "C" {
 #endif
 
 /* The version of this header, and of the archive that is linked: 10,000 times the first number, 100 times the second, and the third. */
-#define LUFFCRINGLE_VERSION 200
+#define LUFFCRINGLE_VERSION 300
 uint64_t luffcringle_version(void);
 
 /* ---- The table ---- */
@@ -42,8 +42,8 @@ enum luffcringle_number {
     LUFFCRINGLE_NOTQUERY = 7,  /* QR bit is 1 */
     LUFFCRINGLE_ROOM = 8,      /* what is to be written is longer than the lent buffer; a reply or a finished message than 65535 octets */
     LUFFCRINGLE_NOPAIR = 9,    /* pair number not enrolled; no pair with that suffix */
-    LUFFCRINGLE_NOKEY = 10,    /* revoke early: no adopted key, or expired; key name: a serial that was never issued */
-    LUFFCRINGLE_SPENT = 11,    /* issue: next serial is 2^32 */
+    LUFFCRINGLE_NOKEY = 10,    /* revoke early: no adopted key, or expired; key name: serial 0, or not below the next one */
+    LUFFCRINGLE_SPENT = 11,    /* issue: next serial is 2^32; enrol: the floor is */
     LUFFCRINGLE_NAME = 12,     /* suffix is not a wire name of 3 to 128 octets; a key's or an algorithm's name is no wire name */
     LUFFCRINGLE_TERM = 13,     /* enrol: not 1 <= fresh < lifetime <= 2^31 - 1; enrol or issue: algorithm not 256, 384 or 512 */
     LUFFCRINGLE_TWIN = 14,     /* suffix already enrolled */
@@ -58,7 +58,7 @@ enum luffcringle_number {
  *   word          holds
  *   0             the clock
  *   1             the count of pairs
- *   2             nothing yet
+ *   2             the floor: the largest next serial of any pair that was closed, 1 in a new table
  *   3 + n         the place of pair number n + 1
  *   67 + 16 q ..  at the place q, for each q below the count:
  *     + 0         the pair that lies here: its number less 1
@@ -72,9 +72,10 @@ enum luffcringle_number {
  *
  * The layout rule: the count is at most 64; for each n below it, word 3 + n is a place below the count whose word + 0 is n; each suffix has 3 to 128
  * octets and comes after that of the place before, octet by octet with A to Z as a to z; word + 5 is 0, 1 or 2; the keys that there are have a known
- * algorithm. What breaks this rule holds no table and is refused with TABLE, and so is a table that breaks a table rule of document 01.
+ * algorithm. What breaks this rule holds no table and is refused with TABLE, and so is a table that breaks a table rule of document 01, or whose
+ * floor is not 1 to 2^32 (document 02). In a table that was stored before version 0.3.0, set word 2 to 1.
  *
- * Word 2, words 3 + n and places from the count on, the words of a key that there is not, and the octets after a suffix have no meaning: they may
+ * Words 3 + n and places from the count on, the words of a key that there is not, and the octets after a suffix have no meaning: they may
  * hold anything and change no answer. So two tables that list alike need not be equal word for word. A table may be stored as it is, its words in
  * the machine's byte order, and lent again later. */
 #define LUFFCRINGLE_TABLE_WORDS 1091
@@ -106,7 +107,7 @@ enum luffcringle_answer {
  *   where TABLE, TIME and CLOCK passed. A refusal leaves every octet of the reply buffer.
  * - An issue, a revoke or a message that is done changes the clock and the words + 2 .. 15 of its own pair, those without meaning included, and no
  *   other word. A message's own pair is the one whose suffix follows the first label of its TSIG's name; it may have none. A batch changes what its
- *   messages change. Enrol moves pairs to other places; their numbers stay.
+ *   messages change. Enrol moves pairs to other places; their numbers stay. Close moves pairs to other places, and the later ones one number down.
  * - After every call, done or refused, what was lent holds exactly the table that the call left.
  * - A call reads and writes only what it is lent, keeps nothing and allocates nothing. Two threads may call at the same time, but not on one table:
  *   a call may not write a table that another call reads or writes. Two looks may share one.
@@ -116,10 +117,16 @@ enum luffcringle_answer {
 uint64_t luffcringle_new_table(uint64_t words[LUFFCRINGLE_TABLE_WORDS], const uint8_t suffixes[LUFFCRINGLE_TABLE_OCTETS], uint64_t time,
                                uint64_t answer[LUFFCRINGLE_ANSWER_WORDS]);
 
-/* Enrol: adds a pair (suffix: an uncompressed wire name) with its first key, serial 1, and answers the pair's number and that serial. Refused with
- * TABLE, TIME, CLOCK, NAME, TERM, TWIN, FULL. */
+/* Enrol: adds a pair (suffix: an uncompressed wire name) with its first key, whose serial is the floor (1 unless a pair was closed), and answers the pair's
+ * number and that serial. Refused with TABLE, TIME, CLOCK, NAME, TERM, TWIN, FULL, SPENT. */
 uint64_t luffcringle_enrol(uint64_t words[LUFFCRINGLE_TABLE_WORDS], uint8_t suffixes[LUFFCRINGLE_TABLE_OCTETS], uint64_t time,
                            const uint8_t *suffix, size_t suffix_length, uint64_t lifetime, uint64_t fresh, uint64_t algorithm,
+                           uint64_t answer[LUFFCRINGLE_ANSWER_WORDS]);
+
+/* Close: the pair goes with its keys. Later pairs move down one number: number them anew, and keep nothing by number. The floor rises to the pair's
+ * next serial, if that is higher, so that no name is ever made again, also where the suffix comes back; closing a pair that has used up its serials
+ * makes every later enrolment SPENT. Answers pair 0 and serial 0. Refused with TABLE, TIME, CLOCK, NOPAIR. */
+uint64_t luffcringle_close(uint64_t words[LUFFCRINGLE_TABLE_WORDS], uint8_t suffixes[LUFFCRINGLE_TABLE_OCTETS], uint64_t time, uint64_t pair,
                            uint64_t answer[LUFFCRINGLE_ANSWER_WORDS]);
 
 /* Issue: a fresh adopted key with the next serial, in the place of what the pair had; answers the pair and the serial. Refused with TABLE, TIME,
@@ -233,8 +240,8 @@ uint64_t luffcringle_pair_of_suffix(const uint64_t words[LUFFCRINGLE_TABLE_WORDS
 uint64_t luffcringle_pair_of_key(const uint64_t words[LUFFCRINGLE_TABLE_WORDS], const uint8_t suffixes[LUFFCRINGLE_TABLE_OCTETS],
                                  const uint8_t *name, size_t name_length, uint64_t *pair);
 
-/* The name of the key with this serial, of a pair, which that pair once issued: into the first octets of `name`, of which 139 are enough. Refused with
- * TABLE, NOPAIR, NOKEY (serial 0, or one not yet issued), ROOM. Keep secrets by this name and not by the pair's number. */
+/* The name that a key of the pair has by its serial, there or gone: into the first octets of `name`, of which 139 are enough. Refused with TABLE, NOPAIR, NOKEY
+ * (serial 0, or not below the pair's next one), ROOM. Keep secrets by this name and not by the pair's number. */
 #define LUFFCRINGLE_KEY_NAME_OCTETS 139
 uint64_t luffcringle_key_name(const uint64_t words[LUFFCRINGLE_TABLE_WORDS], const uint8_t suffixes[LUFFCRINGLE_TABLE_OCTETS], uint64_t pair,
                               uint64_t serial, uint8_t *name, size_t name_room, uint64_t *name_length);
@@ -270,7 +277,7 @@ void luffcringle_moves(const uint64_t before[LUFFCRINGLE_PAIR_WORDS], const uint
  *
  * Mode 0: the message asks for nothing: it is no TKEY request, or has not one well formed TKEY (or that is of the reserved mode 0, which the table
  * answers with BADMODE). */
-#define LUFFCRINGLE_ASKED_WORDS 9
+#define LUFFCRINGLE_ASKED_WORDS 10
 enum luffcringle_asked {
     LUFFCRINGLE_ASKED_PLACE = 0,      /* where reading failed, beside FORMAT; else 0 */
     LUFFCRINGLE_ASKED_MODE = 1,       /* 4097, 4098 and 4099 renewal, 4100 adoption, 5 deletion, others */
@@ -279,8 +286,9 @@ enum luffcringle_asked {
     LUFFCRINGLE_ASKED_EXPIRATION = 4,
     LUFFCRINGLE_ASKED_DATA = 5,       /* its key data: place, and size */
     LUFFCRINGLE_ASKED_DATA_SIZE = 6,
-    LUFFCRINGLE_ASKED_KEY = 7,        /* the data of the only KEY record of the additional section: place (0: there is no such record), and size */
-    LUFFCRINGLE_ASKED_KEY_SIZE = 8
+    LUFFCRINGLE_ASKED_KEYED = 7,      /* 1: there is just one KEY record in the additional section; its data: place, and size */
+    LUFFCRINGLE_ASKED_KEY = 8,
+    LUFFCRINGLE_ASKED_KEY_SIZE = 9
 };
 uint64_t luffcringle_asks(const uint8_t *message, size_t message_length, uint64_t asked[LUFFCRINGLE_ASKED_WORDS]);
 

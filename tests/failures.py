@@ -10,7 +10,7 @@ import sys
 
 SCRIPT = b"new 5\n" + b"list\n" * 20_000
 FIRST = b"0 0 0 0 0 0 - 0\n"
-WHOLE = FIRST + b"clock\t5\n" * 20_000
+WHOLE = FIRST + b"clock\t5\t1\n" * 20_000
 
 
 def run(replay, source, target, **more):

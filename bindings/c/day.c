@@ -12,7 +12,7 @@ enum { LONGEST_LINE = 200000, MOST_OCTETS = LONGEST_LINE / 2, MOST_WORDS = LONGE
 enum { MOST_ROOM = 65535, MOST_BATCH_ROOM = 100000 };
 
 /* Where the words of a table and of a row are, and how many octets a suffix has for itself (luffcringle.h). */
-enum { CLOCK = 0, COUNT = 1, MAP = 3, ROWS = 67, ROW_WORDS = 16, SUFFIX_OCTETS = 128 };
+enum { CLOCK = 0, COUNT = 1, FLOOR = 2, MAP = 3, ROWS = 67, ROW_WORDS = 16, SUFFIX_OCTETS = 128 };
 enum { LENGTH = 1, LIFETIME = 2, FRESH = 3, NEXT_SERIAL = 4, KEYS = 5, ADOPTED = 6, WAITING = 11 };
 
 struct word {
@@ -164,7 +164,7 @@ static void print_pair(const uint64_t *row, const uint8_t *octets) {
 
 /* In order of enrolment: the map has the place of each pair. */
 static void print_table(void) {
-    printf("clock\t%" PRIu64 "\n", table.words[CLOCK]);
+    printf("clock\t%" PRIu64 "\t%" PRIu64 "\n", table.words[CLOCK], table.words[FLOOR]);
     for (uint64_t i = 0; i < table.words[COUNT]; i++) {
         uint64_t place = table.words[MAP + i];
         print_pair(table.words + ROWS + ROW_WORDS * place, table.suffixes + SUFFIX_OCTETS * place);
@@ -203,6 +203,14 @@ static bool call_revoke(const struct word *w) {
     if (!read_number(w[1], &time) || !read_number(w[2], &pair))
         return false;
     luffcringle_revoke(table.words, table.suffixes, time, pair, answer);
+    return true;
+}
+
+static bool call_close(const struct word *w) {
+    uint64_t time, pair;
+    if (!read_number(w[1], &time) || !read_number(w[2], &pair))
+        return false;
+    luffcringle_close(table.words, table.suffixes, time, pair, answer);
     return true;
 }
 
@@ -258,8 +266,8 @@ static const struct {
     size_t words;
     bool (*call)(const struct word *);
 } calls[] = {
-    {"new", 2, call_new},   {"enrol", 6, call_enrol},     {"issue", 4, call_issue},          {"revoke", 3, call_revoke},
-    {"look", 2, call_look}, {"message", 6, call_message}, {"message", 8, call_long_message},
+    {"new", 2, call_new},     {"enrol", 6, call_enrol}, {"issue", 4, call_issue},     {"revoke", 3, call_revoke},
+    {"close", 3, call_close}, {"look", 2, call_look},   {"message", 6, call_message}, {"message", 8, call_long_message},
 };
 
 static bool run_line(const char *line, size_t length) {

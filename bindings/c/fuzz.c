@@ -80,7 +80,7 @@ static bool kept(const void *at) { return kept_from(at, 0); }
 /* ---- What is seen ---- */
 
 enum call {
-    NEW, ENROL, ISSUE, REVOKE, LOOK, MESSAGE, BATCH, TEST, PAIR_OF_SUFFIX, PAIR_OF_KEY, KEY_NAME, PAIR, ASKS,
+    NEW, ENROL, CLOSE, ISSUE, REVOKE, LOOK, MESSAGE, BATCH, TEST, PAIR_OF_SUFFIX, PAIR_OF_KEY, KEY_NAME, PAIR, ASKS,
     DIGEST_REQUEST, DIGEST_REPLY, DIGEST_LATER, FINISH, READ_TSIG, REMOVE, RECEIVED_REQUEST, RECEIVED_REPLY, RECEIVED_LATER,
     HOLD, RENEWAL, ADOPTION, DELETION, REPLY, CALLS
 };
@@ -89,7 +89,8 @@ static const struct {
     const char *numbers; /* as the header lists them, DONE first; what stands in brackets is not reached here */
 } listed[CALLS] = {
     [NEW] = {"new_table", "0 2"},
-    [ENROL] = {"enrol", "0 1 2 3 12 13 14 15"},
+    [ENROL] = {"enrol", "0 1 2 3 (11) 12 13 14 15"},
+    [CLOSE] = {"close", "0 1 2 3 9"},
     [ISSUE] = {"issue", "0 1 2 3 9 (11) 13"},
     [REVOKE] = {"revoke", "0 1 2 3 9 10"},
     [LOOK] = {"look", "0 1 4 6 7"},
@@ -271,6 +272,17 @@ static void enrol(void) {
     number = luffcringle_enrol(words, suffixes, pick_time(), suffix, size, one_in(8) ? chance() : 401 + below(400), fresh, pick_algorithm(), answer);
     check(ENROL, number);
     must(ENROL, kept(suffix) && (!number || (kept_from(words, 8) && kept(suffixes))), "what is kept");
+    keep(words);
+    if (!is_damaged)
+        memcpy(&table.suffixes, suffixes, sizeof table.suffixes);
+}
+
+static void close_pair(void) {
+    uint64_t *words = lend_words(), *answer = lend(NULL, 8 * LUFFCRINGLE_ANSWER_WORDS);
+    uint8_t *suffixes = lend(&table.suffixes, sizeof table.suffixes);
+    uint64_t number = luffcringle_close(words, suffixes, pick_time(), one_in(8) ? chance() : below(66), answer);
+    check(CLOSE, number);
+    must(CLOSE, zeros(answer + 1, 6) && (!number || (kept_from(words, 8) && kept(suffixes))), "what is kept");
     keep(words);
     if (!is_damaged)
         memcpy(&table.suffixes, suffixes, sizeof table.suffixes);
@@ -572,7 +584,7 @@ static void step(void) {
     case 4: issue_or_revoke(false); break;
     case 5: look(); break;
     case 6: case 7: message(); break;
-    case 8: if (one_in(8)) batch(); break;
+    case 8: one_in(8) ? batch() : one_in(8) ? close_pair() : look(); break;
     case 9: inquire(); break;
     case 10: asks(); break;
     case 11: sign(); break;

@@ -16,7 +16,7 @@
 
 enum { FILL = 0xa5, STACK = 1 << 20, ORDINARY = 4096, MOST = 20480, MESSAGE = 65535, NOW = 1000 };
 enum { DIFFIE_HELLMAN = 4097, BY_SERVER = 4098, BY_RESOLVER = 4099, ADOPTION = 4100 };
-enum { COUNT = 1, MAP = 3, ROWS = 67, ROW_WORDS = 16, NEXT_SERIAL = 4, KEYS = 5, ADOPTED = 6 };
+enum { COUNT = 1, FLOOR = 2, MAP = 3, ROWS = 67, ROW_WORDS = 16, NEXT_SERIAL = 4, KEYS = 5, ADOPTED = 6 };
 
 static uint8_t stack[STACK] __attribute__((aligned(64))), message[MESSAGE], reply[MESSAGE];
 static struct luffcringle_table almost, full, renewed, table;
@@ -36,6 +36,7 @@ static void nothing(void) {}
 static void make_new(void) { luffcringle_new_table(table.words, table.suffixes, NOW, answer); }
 static void enrol(void) { luffcringle_enrol(table.words, table.suffixes, NOW, other, sizeof other, 600, 400, 256, answer); }
 static void issue(void) { luffcringle_issue(table.words, table.suffixes, NOW, 1, 512, answer); }
+static void close_first(void) { luffcringle_close(table.words, table.suffixes, NOW, 1, answer); }
 static void revoke_early(void) { luffcringle_revoke(table.words, table.suffixes, NOW, 1, answer); }
 static void look(void) { luffcringle_look(table.words, table.suffixes, message, size, answer); }
 static void judge(void) {
@@ -92,6 +93,7 @@ static void run_guarded(void (*call)(void), size_t octets) {
     munmap(all, page + octets);
 }
 
+static bool is_63(void) { return table.words[COUNT] == 63 && table.words[FLOOR] == 2; }
 static bool is_done(bool (*expected)(void)) { return answer[LUFFCRINGLE_NUMBER] == LUFFCRINGLE_DONE && expected(); }
 
 static void show(const char *what, const struct luffcringle_table *from, void (*call)(void), bool (*expected)(void), size_t limit) {
@@ -210,6 +212,7 @@ int main(int argc, char **argv) {
     printf("%-72s %6zu octets\n", "(makecontext)", base);
     show("new table", &full, make_new, is_empty, MOST);
     show("enrol", &almost, enrol, is_64th, MOST);
+    show("close", &full, close_first, is_63, MOST);
     show("issue", &full, issue, is_second, MOST);
     show("revoke", &full, revoke_early, is_signed, MOST);
     update();

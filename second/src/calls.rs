@@ -100,13 +100,11 @@ impl Done {
 /// 01 "The desk's business", new table: no pairs, its clock the time given.
 pub fn new(time: u64) -> Result<Table, Refusal> {
     ensure(time < TIME_LIMIT, Refusal::Time)?;
-    Ok(Table {
-        clock: time,
-        pairs: Vec::new(),
-    })
+    Ok(Table::empty(time))
 }
 
-/// 01 "The desk's business", enrol: adds a pair with its first key, serial 1.
+/// 01 "The desk's business", enrol: adds a pair with its first key, whose serial
+/// is the floor; SPENT, after FULL, when that is 2^32 (CR 9).
 pub fn enrol(
     table: &mut Table,
     time: u64,
@@ -121,16 +119,28 @@ pub fn enrol(
     let algorithm = Algorithm::from_number(algorithm).ok_or(Refusal::Term)?;
     ensure(table.find(suffix).is_none(), Refusal::Twin)?;
     ensure(table.pairs.len() < MOST_PAIRS, Refusal::Full)?;
+    let first = table.floor;
+    ensure(first < SERIAL_LIMIT, Refusal::Spent)?;
     let mut pair = Pair {
         suffix: suffix.to_vec(),
         lifetime,
         fresh,
-        next_serial: 1,
+        next_serial: first,
         keys: Keys::None,
     };
     pair.issue(pair.next_key(algorithm, time));
     table.pairs.push(pair);
-    Ok(Done::with_key(table.pairs.len() - 1, 1))
+    Ok(Done::with_key(table.pairs.len() - 1, first))
+}
+
+/// CR 9, close: the pair goes, later ones move down one number, and the floor
+/// is not below the pair's next serial. Answers pair 0 and serial 0.
+pub fn close(table: &mut Table, time: u64, number: u64) -> Result<Done, Refusal> {
+    open(table, time)?;
+    let index = table.index_of(number).ok_or(Refusal::NoPair)?;
+    let closed = table.pairs.remove(index);
+    table.floor = table.floor.max(closed.next_serial);
+    Ok(Done::default())
 }
 
 /// 01 "The desk's business", issue: gives a pair a fresh adopted key and drops

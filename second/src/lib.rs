@@ -29,7 +29,7 @@ pub mod table;
 mod wire;
 
 pub use batch::batch;
-pub use calls::{enrol, issue, look, message, new, revoke, Done, Refusal};
+pub use calls::{close, enrol, issue, look, message, new, revoke, Done, Refusal};
 pub use judging::Given;
 pub use table::{Algorithm, Key, Keys, Pair, Table};
 pub use wire::Tsig;

@@ -45,7 +45,7 @@ impl Runner {
     /// SCRIPT.md: the start of a run.
     pub fn new() -> Runner {
         Runner {
-            table: Table::default(),
+            table: Table::empty(0),
             resolver: Resolver::default(),
             line: 0,
             buffer: vec![0; MOST_LONG_ROOM],
@@ -115,6 +115,7 @@ impl Runner {
                 calls::issue(table, number(time)?, number(pair)?, number(algorithm)?)
             }
             [b"revoke", time, pair] => calls::revoke(table, number(time)?, number(pair)?),
+            [b"close", time, pair] => calls::close(table, number(time)?, number(pair)?),
             [b"look", message] => calls::look(table, &octets(message)?),
             [b"message", ref words @ ..] => return self.message(words),
             _ => return None,
@@ -497,7 +498,10 @@ fn print_resolver(resolver: &Resolver, out: &mut Vec<u8>) {
 
 /// CR 7: the table as lines of text, fields parted by tabs.
 pub fn print_listing(table: &Table, out: &mut Vec<u8>) {
-    print(out, format_args!("clock\t{}\n", table.clock));
+    print(
+        out,
+        format_args!("clock\t{}\t{}\n", table.clock, table.floor),
+    );
     for pair in &table.pairs {
         out.extend_from_slice(b"pair\t");
         print_hex(&pair.suffix, out);

@@ -217,21 +217,33 @@ pub fn are_terms(lifetime: u64, fresh: u64) -> bool {
     1 <= fresh && fresh < lifetime && lifetime <= LONGEST_LIFETIME
 }
 
-/// Pairs in order of enrolment, numbered from 1, and a clock. The fields are
+/// Pairs in order of enrolment, numbered from 1, a clock, and a floor: the
+/// largest next serial of any closed pair, 1 at first (CR 9). The fields are
 /// open, so that a table may break the rules; every call looks.
-#[derive(Clone, Debug, Default, PartialEq, Eq)]
+#[derive(Clone, Debug, PartialEq, Eq)]
 pub struct Table {
     pub clock: u64,
+    pub floor: u64,
     pub pairs: Vec<Pair>,
 }
 
 impl Table {
+    /// No pairs, none closed.
+    pub fn empty(clock: u64) -> Table {
+        Table {
+            clock,
+            floor: 1,
+            pairs: Vec::new(),
+        }
+    }
+
     /// 01, the table rules.
     pub fn keeps_rules(&self) -> bool {
         self.pairs.len() <= MOST_PAIRS
             && self.clock < TABLE_TIME_LIMIT
             && self.pairs.iter().all(|pair| pair.keeps_rules(self.clock))
             && self.has_distinct_suffixes()
+            && (1..=SERIAL_LIMIT).contains(&self.floor)
     }
 
     /// 01, the table rules: suffixes distinct. Names are compared only where

@@ -155,8 +155,7 @@ pub fn asks(message: &[u8]) -> Result<Option<Asks<'_>>, Refusal> {
         inception: inception as u32,
         expiration: expiration as u32,
         data: part(data[0], data[1]),
-        // No record's data stands at place 0, in the header.
-        key: (data[2] != 0).then(|| part(data[2], data[3])),
+        key: (data[2] == 1).then(|| part(data[3], data[4])),
     }))
 }
 
@@ -209,7 +208,7 @@ impl Table {
         done(number, pair)
     }
 
-    /// The name of the key with this serial, which the pair once issued. Keep
+    /// The name that a key of the pair has by its serial, there or gone. Keep
     /// secrets by it, and not by the pair's number. Refused with `Table`,
     /// `NoPair`, `NoKey`.
     pub fn key_name(&self, pair: u64, serial: u64) -> Result<Name, Refusal> {

@@ -27,8 +27,8 @@ pub use table::{MOST_ITEMS, TABLE_OCTETS, TABLE_WORDS};
 pub use view::{Key, Keys, Pair, View};
 pub use words::{Algorithm, Name, Refusal, TsigError, Verdict};
 
-/// The version of the archive that is linked, as the header numbers it: 200 is
-/// 0.2.0.
+/// The version of the archive that is linked, as the header numbers it: 300 is
+/// 0.3.0.
 pub fn version() -> u64 {
     // SAFETY: nothing is lent.
     unsafe { sys::luffcringle_version() }

@@ -15,7 +15,7 @@ pub type PairWords = [u64; 14];
 /// Made, adopted, ended, dropped.
 pub type MovesWords = [u64; 4];
 /// What a TKEY request asks for.
-pub type AskedWords = [u64; 9];
+pub type AskedWords = [u64; 10];
 /// The fields of a TSIG that was read.
 pub type TsigWords = [u64; 10];
 /// An expanded name, in its first octets.
@@ -44,6 +44,13 @@ extern "C" {
         lifetime: u64,
         fresh: u64,
         algorithm: u64,
+        answer: &mut Told,
+    ) -> u64;
+    pub fn luffcringle_close(
+        words: &mut Words,
+        suffixes: &mut Octets,
+        time: u64,
+        pair: u64,
         answer: &mut Told,
     ) -> u64;
     pub fn luffcringle_issue(

@@ -1,4 +1,4 @@
-//! The table and its seven calls.
+//! The table and its eight calls.
 
 use crate::sys::{self, ItemWords, Octets, Told, Words};
 use crate::view::{self, View};
@@ -253,6 +253,29 @@ impl Table {
                 &mut answer,
             )
         };
+        told(number, answer)
+    }
+
+    /// Close: the pair goes with its keys, and later pairs move down one number.
+    /// No name is made again, also where the suffix comes back.
+    ///
+    /// ```
+    /// use luffcringle::{Algorithm, Refusal, Table};
+    ///
+    /// let office = b"\x01a\x07example\0";
+    /// let mut table = Table::new(1000)?;
+    /// table.enrol(1000, office, 600, 400, Algorithm::Sha256)?;
+    /// table.close(1001, 1)?;
+    /// // It comes back, and its first key has the next serial.
+    /// let answer = table.enrol(1002, office, 600, 400, Algorithm::Sha256)?;
+    /// assert_eq!((answer.pair, answer.serial), (1, 2));
+    /// # Ok::<(), Refusal>(())
+    /// ```
+    pub fn close(&mut self, time: u64, pair: u64) -> Result<Answer, Refusal> {
+        let Lent { words, suffixes } = &mut *self.lent;
+        let mut answer = Told::default();
+        // SAFETY: the references are all that is lent.
+        let number = unsafe { sys::luffcringle_close(words, suffixes, time, pair, &mut answer) };
         told(number, answer)
     }
 

@@ -9,6 +9,8 @@ use crate::words::Algorithm;
 pub struct View {
     /// The time of the last call that passed TABLE, TIME and CLOCK.
     pub clock: u64,
+    /// The serial of the first key of a pair that is enrolled next.
+    pub floor: u64,
     /// In order of enrolment: pair number 1 is the first.
     pub pairs: Vec<Pair>,
 }
@@ -61,7 +63,7 @@ pub struct Key {
 
 /// `None` where they break the layout rule.
 pub(crate) fn read(words: &Words, suffixes: &Octets) -> Option<View> {
-    let [clock, count, _, rest @ ..] = words;
+    let [clock, count, floor, rest @ ..] = words;
     let count = usize::try_from(*count).ok().filter(|&count| count <= 64)?;
     let (map, places) = rest.split_at(64);
     let rows = &places.as_chunks::<16>().0[..count];
@@ -81,6 +83,7 @@ pub(crate) fn read(words: &Words, suffixes: &Octets) -> Option<View> {
     let pairs: Option<Vec<Pair>> = map[..count].iter().enumerate().map(pair).collect();
     Some(View {
         clock: *clock,
+        floor: *floor,
         pairs: pairs?,
     })
 }

@@ -189,9 +189,9 @@ pub enum Refusal {
     /// The pair is not enrolled.
     NoPair,
     /// Revoke: there is no adopted key, or it is expired. A key's name: its
-    /// serial was never issued.
+    /// serial is 0, or not below the pair's next one.
     NoKey,
-    /// Issue: the next serial is 2^32.
+    /// Issue: the next serial is 2^32. Enrol: the floor is.
     Spent,
     /// The suffix is not a wire name of 3 to 128 octets; a key's name is no
     /// wire name.

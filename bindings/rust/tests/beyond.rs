@@ -93,7 +93,7 @@ fn is_left(before: &Table, after: &Table) -> bool {
     before.parts() == after.parts()
 }
 
-/// All six calls that read a table refuse it with TABLE, and change nothing.
+/// All seven calls that read a table refuse it with TABLE, and change nothing.
 fn refused_by_all(table: &Table, what: &str) {
     let message = Draft::ordinary().signed("1.a.example.", 1000);
     let mut lent = table.clone();
@@ -102,10 +102,11 @@ fn refused_by_all(table: &Table, what: &str) {
         lent.enrol(1001, &name("new.example."), 600, 400, Algorithm::Sha256),
         lent.issue(1001, 1, Algorithm::Sha256),
         lent.revoke(1001, 1),
+        lent.close(1001, 1),
         lent.look(&message),
         lent.message(&good(1001, &[5]), &message, &mut reply),
     ];
-    assert_eq!(refused, [Err(Refusal::Table); 5], "{what}");
+    assert_eq!(refused, [Err(Refusal::Table); 6], "{what}");
     // Before BATCH, and where there is nothing to do.
     for items in [&[][..], &[whole(&message); 64], &[whole(&message); 65]] {
         let refused = lent.batch(&message, items, &mut reply);
@@ -483,6 +484,10 @@ fn a_refusal_leaves_all_but_the_clock() {
     refused(Refusal::Clock, 1000, |t, _| t.revoke(999, 1));
     refused(Refusal::NoPair, 1001, |t, _| t.revoke(1001, 2));
     refused(Refusal::NoKey, 1600, |t, _| t.revoke(1600, 1));
+    refused(Refusal::Time, 1000, |t, _| t.close(late, 1));
+    refused(Refusal::Clock, 1000, |t, _| t.close(999, 1));
+    refused(Refusal::NoPair, 1001, |t, _| t.close(1001, 0));
+    refused(Refusal::NoPair, 1001, |t, _| t.close(1001, 2));
     refused(Refusal::Clock, 1000, |t, _| {
         t.enrol(999, b, 600, 400, Algorithm::Sha256)
     });
@@ -804,10 +809,10 @@ fn junk_changes_nothing_and_stays() {
         assert_eq!(answer, call(&mut expected, &mut expected_reply));
         assert_eq!(reply, expected_reply);
         assert_eq!(table.view(), expected.view());
-        // Behind the places that the call could use, and in word 2.
+        // Behind the places that the call could use, and the floor.
         let (was, octets_were) = before.parts();
         let (is, octets_are) = table.parts();
-        assert_eq!(was[SPARE], is[SPARE]);
+        assert_eq!(was[FLOOR], is[FLOOR]);
         assert_eq!(was[MAP + 7..row(0)], is[MAP + 7..row(0)]);
         assert_eq!(was[row(7)..], is[row(7)..]);
         assert_eq!(octets_were[128 * 7..], octets_are[128 * 7..]);
@@ -865,4 +870,49 @@ fn tables_go_between_threads() {
             scope.spawn(|| assert_eq!(table.look(&message), Ok(key(1))));
         }
     });
+}
+
+/// Pairs closed in every order, with junk where nothing has a meaning, against
+/// the second reader; and enrolled again.
+#[test]
+fn closings() {
+    let mut random = Random(9);
+    for _ in 0..200 {
+        let count = 3 + random.below(4) as u64;
+        let mut table = offices(count);
+        let mut theirs = table_of(&table);
+        while !theirs.pairs.is_empty() {
+            table = with_junk(&table, &mut random);
+            let pair = 1 + random.below(theirs.pairs.len()) as u64;
+            let answer = table.close(1001, pair);
+            assert_eq!(answer, as_ours(second::close(&mut theirs, 1001, pair)));
+            assert_eq!(table_of(&table), theirs);
+            if random.below(4) == 0 {
+                let suffix = name(&office(1 + random.below(64) as u64));
+                let answer = table.enrol(1001, &suffix, 600, 400, Algorithm::Sha256);
+                let expected = second::enrol(&mut theirs, 1001, &suffix, 600, 400, 256);
+                assert_eq!(answer, as_ours(expected));
+                assert_eq!(table_of(&table), theirs);
+            }
+        }
+    }
+}
+
+/// The floor's rule, and the enrolment at its end.
+#[test]
+fn floors() {
+    let with_floor = |floor| edited(&day(), |words, _| words[FLOOR] = floor);
+    for floor in [0, (1 << 32) + 1, u64::MAX] {
+        refused_by_all(&with_floor(floor), "the floor");
+    }
+    let b = &name("b.example.");
+    let mut table = with_floor((1 << 32) - 1);
+    let answer = table.enrol(1001, b, 600, 400, Algorithm::Sha256);
+    assert_eq!(answer, Ok(key_of(2, (1 << 32) - 1)));
+    let refused = with_floor(1 << 32).enrol(1001, b, 600, 400, Algorithm::Sha256);
+    assert_eq!(refused, Err(Refusal::Spent));
+    // Closing a pair that has used up its serials.
+    assert_eq!(table.close(1002, 2), Ok(Answer::default()));
+    let refused = table.enrol(1002, b, 600, 400, Algorithm::Sha256);
+    assert_eq!(refused, Err(Refusal::Spent));
 }

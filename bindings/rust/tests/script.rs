@@ -9,7 +9,7 @@ use std::path::{Path, PathBuf};
 use support::words::{hex_or_none, number, octets, verdict_of};
 use support::{changed, enrol_numbered, issue_numbered, row, row_of, table_of, with_junk, Random};
 use support::{office_lines, signing_lines};
-use support::{CLOCK, COUNT, LIFETIME, MAP, ROW_WORDS};
+use support::{CLOCK, COUNT, FLOOR, LIFETIME, MAP, ROW_WORDS};
 
 const LONGEST_LINE: usize = 200_000;
 const MOST_ROOM: usize = 65_535;
@@ -92,6 +92,7 @@ impl Runner {
                 }
             }
             ["revoke", time, pair] => table.revoke(number(time)?, number(pair)?),
+            ["close", time, pair] => table.close(number(time)?, number(pair)?),
             ["look", message] => table.look(&octets(message)?),
             ["message", time, verdict, offer, room, message] => {
                 return self.message([time, verdict, offer, room, message, "bad", "-"])
@@ -178,21 +179,24 @@ fn printed_batch(result: Result<Vec<CallResult>, Refusal>, replies: &[u8]) -> St
 /// clock, and a call that is done all but the clock and its own words.
 fn check_kept(at: u64, line: &[u8], before: &Table, after: &Table, result: Option<CallResult>) {
     let call = line.split(|&octet| octet == b' ').next();
-    let enrolled = match (call, result) {
+    // How many places a call that moves pairs may touch.
+    let moved = match (call, result) {
         (Some(b"enrol"), Some(Ok(answer))) => answer.pair as usize,
+        (Some(b"close"), Some(Ok(_))) => before.parts().0[COUNT] as usize,
         _ => 0,
     };
-    let octets = |table: &Table| table.parts().1[128 * enrolled..].to_vec();
+    let octets = |table: &Table| table.parts().1[128 * moved..].to_vec();
     assert!(octets(before) == octets(after), "line {at}: octets");
     for word in changed(before, after) {
         let is_own = match (call, result) {
             (_, None | Some(Err(Refusal::Table))) | (Some(b"look"), _) => false,
             (_, Some(Err(_))) => word == CLOCK,
-            (Some(b"new"), _) => word <= COUNT,
-            (Some(b"enrol"), _) => {
+            (Some(b"new"), _) => word <= FLOOR,
+            (Some(b"enrol" | b"close"), _) => {
                 word <= COUNT
-                    || (MAP..MAP + enrolled).contains(&word)
-                    || (row(0)..row(enrolled)).contains(&word)
+                    || (word == FLOOR && call == Some(b"close"))
+                    || (MAP..MAP + moved).contains(&word)
+                    || (row(0)..row(moved)).contains(&word)
             }
             (_, Some(Ok(answer))) => word == CLOCK || is_of_pair(before, answer.pair, word),
         };

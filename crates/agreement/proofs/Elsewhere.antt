@@ -1,17 +1,19 @@
 -- An operation of another pair, or of none, leaves the row of a pair, and so keeps agreement. Assumes nothing.
 use mathlib.Core.Path.{_≡_, refl, sym, ap, subst, _∙_}
+use mathlib.Core.Bool.{Bool, true, false, cond, _&&_}
 use mathlib.Core.Option.{Option, none, some}
 use mathlib.Core.List.{List, [], _∷_, _++_}
-use Prim.Native.Nat.{ℕ, zero, suc, _<_}
+use Prim.Native.Nat.{ℕ, zero, suc, _+_, _-_, _<_}
 use native.Mathlib.Omega.{arith}
-use lib.ListN.{length, getD}
-use lib.Dec.{ltb}
+use lib.ListN.{length, getD, take, drop}
+use lib.Dec.{leb, ltb}
 use Rattle.model.specs.declared.Pair.{Pair}
 use Rattle.model.specs.declared.Resolver.{Resolver}
 use Rattle.model.specs.Names.{algorithmNumbered}
 use Rattle.model.specs.Tables.{Row, Table, noRow, rowAt, suffixAt, pairAt, withClock, namesOf, rowNamed, isNone, suffixOk, termOk}
-use Rattle.model.specs.Calls.{NAME, TERM, TWIN, FULL, Result, unchanged, gate, withRow, enrolled, enrolPassed, enrolOn, Call, timeOf, called}
-use Rattle.model.specs.Runs.{Operation, enrol, call, operated, frameOf, belongs}
+use Rattle.model.specs.Checks.{checkSome}
+use Rattle.model.specs.Calls.{NOPAIR, SPENT, NAME, TERM, TWIN, FULL, Result, done, unchanged, gate, withRow, firstSerial, enrolled, enrolPassed, enrolOn, withoutRow, numberOwner, closed, closePassed, closeOn, Call, timeOf, called}
+use Rattle.model.specs.Runs.{Operation, enrol, close, call, operated, frameOf, belongs}
 use Rattle.model.specs.Exchange.{Sides, elsewhere, happened, Other, elsewhereAll, AllOther, Agree}
 use Rattle.model.proofs.Tests.{by-check, by-known}
 use Rattle.guarantees.proofs.OneCall.{same-size, refused-same, keeps-frame, keeps-others, frame-names}
@@ -54,7 +56,28 @@ module _ (i : ℕ) (t : Table) (h : i < length (t .rows)) (suffix : List ℕ) (l
       by-known (λ (r : Result). Kept i t (r .table)) (unchanged t) TERM stays (algorithmNumbered algorithm) λ g _.
       by-check (λ (r : Result). Kept i t (r .table)) (unchanged t) TWIN stays (isNone (rowNamed (namesOf t) suffix)) λ _.
       by-check (λ (r : Result). Kept i t (r .table)) (unchanged t) FULL stays (ltb (length (t .rows)) 64) λ _.
+      by-check (λ (r : Result). Kept i t (r .table)) (unchanged t) SPENT stays (ltb (firstSerial t) 0x1_0000_0000) λ _.
       row-keeps _
+
+-- ── A closing ───────────────────────────────────────────────────────────────────────────────────────────────────────
+
+in-front : (l : List Row) (k i : ℕ) → i < k → i < length l → (getD (take k l ++ drop (suc k) l) i noRow ≡ getD l i noRow) × (i < length (take k l ++ drop (suc k) l))
+in-front [] k i b h = absurd (omega arith)
+in-front (y ∷ l) zero i b h = absurd (omega arith)
+in-front (y ∷ l) (suc k) zero b h = (refl, omega arith)
+in-front (y ∷ l) (suc k) (suc i) b h = let r = in-front l k i (omega arith) (omega arith) in (r .0, omega (arith, r .1))
+
+module _ (i : ℕ) (t : Table) (h : i < length (t .rows)) (number : ℕ) (b : i + 1 < number) where
+  closed-keeps : Kept i t (closed t number .table)
+  unfolding closed numberOwner unchanged withoutRow rowAt
+  closed-keeps = go (leb 1 number && leb number (length (namesOf t)))
+    where
+      row : Kept i t (withoutRow t (number - 1))
+      row = let r = in-front (t .rows) (number - 1) i (omega arith) h in record { row = r .0; there = r .1 }
+
+      go : (c : Bool) → Kept i t (checkSome (unchanged t) NOPAIR (cond c (some (number - 1)) none) (λ k. record { table = withoutRow t k; outcome = done 0 0 }) .table)
+      go true = row
+      go false = as-it-was i t h
 
 clock-keeps : {i : ℕ} {t u : Table} (time : ℕ) → Kept i (withClock t time) u → Kept i t u
 unfolding withClock rowAt
@@ -66,9 +89,15 @@ module _ (i : ℕ) (t : Table) (h : i < length (t .rows)) where
   enrol-keeps time suffix lifetime fresh algorithm (some n) = as-it-was i t h
   enrol-keeps time suffix lifetime fresh algorithm none = clock-keeps time (enrolled-keeps i (withClock t time) h suffix lifetime fresh algorithm)
 
+  close-keeps : (time number : ℕ) → i + 1 < number → (g : Option ℕ) → Kept i t (closePassed t time number g .table)
+  unfolding unchanged withClock
+  close-keeps time number b (some n) = as-it-was i t h
+  close-keeps time number b none = clock-keeps time (closed-keeps i (withClock t time) h number b)
+
   keeps : (o : Operation) → Other i t o → Kept i t (operated t o .table)
-  unfolding operated enrolOn
+  unfolding operated enrolOn closeOn
   keeps (enrol time suffix lifetime fresh algorithm) q = enrol-keeps time suffix lifetime fresh algorithm (gate t (some time))
+  keeps (close time number) q = close-keeps time number q (gate t (some time))
   keeps (call c) q = call-keeps i t h c (gate t (timeOf c)) refl q
 
 -- ── Agreement ───────────────────────────────────────────────────────────────────────────────────────────────────────

@@ -12,7 +12,7 @@ ghost use mathlib.Core.Path.{_≡_};
 ghost use Prim.Native.Nat.{ℕ, _-_};
 ghost use lib.ListN.{length, length as octetsIn};
 ghost use Rattle.model.specs.Tables.{namesOf};
-ghost use Rattle.model.specs.Calls.{enrolOn, issueOn, revokeOn, lookOn, messageOn, octetsOwner};
+ghost use Rattle.model.specs.Calls.{enrolOn, closeOn, issueOn, revokeOn, lookOn, messageOn, octetsOwner};
 ghost use Rattle.model.specs.Inquiries.{Asks, tested, pairSuffixed, pairOfKey, keyNameOf, pairShown, movesOf, asksOf};
 ghost use Rattle.store.specs.Layout.{keysAt, tableOf};
 ghost use Rattle.batches.specs.Batched.{itemsIn, BatchShows};
@@ -20,7 +20,7 @@ ghost use Rattle.outcomes.specs.Ends.{Own};
 ghost use Rattle.asking.specs.Asking.{Shows};
 ghost use Rattle.inquiries.specs.Inquired.{PairTold};
 ghost use Rattle.capi.specs.Told.{handed, Told, Lent, NewLent, MessageLent};
-ghost use Rattle.capi.specs.Inquired.{FoundTold, SpeltTold, movesWords, AsksTold};
+ghost use Rattle.capi.specs.Inquired.{FoundTold, SpeltTold, movesWords, keyedWord, AsksTold};
 
 // ── Answers ─────────────────────────────────────────────────────────────────────────────────────────────────────────
 
@@ -48,7 +48,7 @@ pub extern "C" fn luffcringle_new_table(
     tell(answer, a)
 }
 
-// Enrol. Refused, in this order, with TABLE (1), TIME (2), CLOCK (3), NAME (12), TERM (13), TWIN (14), FULL (15).
+// Enrol. Refused, in this order, with TABLE (1), TIME (2), CLOCK (3), NAME (12), TERM (13), TWIN (14), FULL (15), SPENT (11).
 #[no_mangle]
 pub extern "C" fn luffcringle_enrol(
     words: &mut [u64; 1091],
@@ -71,6 +71,21 @@ pub extern "C" fn luffcringle_enrol(
         fresh,
         algorithm,
     );
+    tell(answer, a)
+}
+
+// Close. Refused, in this order, with TABLE (1), TIME (2), CLOCK (3), NOPAIR (9).
+#[no_mangle]
+pub extern "C" fn luffcringle_close(
+    words: &mut [u64; 1091],
+    suffixes: &mut [u8; 8192],
+    time: u64,
+    pair: u64,
+    answer: &mut [u64; 7],
+) -> u64
+    ensures { λ r. ⌜ Lent (λ t. closeOn t time pair) (now (words .entry)) (now (suffixes .entry)) (now (words .exit)) (now (suffixes .exit)) (now (answer .exit)) r ⌝ }
+{
+    let a = operator::close(&mut words[..], &mut suffixes[..], time, pair);
     tell(answer, a)
 }
 
@@ -236,7 +251,7 @@ fn tell_length(length: &mut [u64; 1], s: Spelling) -> u64
 }
 
 // The wire name of the key with this serial, there or gone, in the pair of this number, into the first octets of `name`. Refused, in this order, with TABLE (1),
-// NOPAIR (9), NOKEY (10: the serial was never issued), ROOM (8).
+// NOPAIR (9), NOKEY (10: the serial is 0, or not below the pair's next one), ROOM (8).
 #[no_mangle]
 pub extern "C" fn luffcringle_key_name(
     words: &[u64; 1091],
@@ -276,11 +291,18 @@ pub extern "C" fn luffcringle_moves(before: &[u64; 14], after: &[u64; 14], moves
     *moves = [m.made, m.adopted, m.ended, m.dropped];
 }
 
-fn tell_asks(asked: &mut [u64; 9], a: Asked) -> u64
+fn keyed_word(keyed: bool) -> u64
+    ensures { λ r. ⌜ r ≡ keyedWord keyed ⌝ }
+{
+    if keyed { 1 } else { 0 }
+}
+
+fn tell_asks(asked: &mut [u64; 10], a: Asked) -> u64
     ensures { λ r. ⌜ ((m : List ℕ) (asks : Asks) → Shows m asks a → AsksTold m asks (now (asked .exit)) r) ⌝ }
 {
     let key = a.key;
     let second = a.second;
+    let keyed = keyed_word(a.keyed);
     *asked = [
         a.place,
         a.mode,
@@ -289,17 +311,18 @@ fn tell_asks(asked: &mut [u64; 9], a: Asked) -> u64
         a.expiration,
         key.from as u64,
         key.size as u64,
+        keyed,
         second.from as u64,
         second.size as u64,
     ];
     a.number
 }
 
-// What a message asks for, signed or not, in nine words: the place where reading failed, beside FORMAT; the TKEY's mode (0 where nothing is asked), algorithm (256, 384,
-// 512, or 0 for any other), inception and expiration; place and size of its key data in the message; place and size of the data of the only KEY record of the additional
-// section, 0 and 0 where there is none. Refused, in this order, with SIZE (4), FORMAT (6), NOTQUERY (7).
+// What a message asks for, signed or not, in ten words: the place where reading failed, beside FORMAT; the TKEY's mode (0 where nothing is asked), algorithm (256, 384,
+// 512, or 0 for any other), inception and expiration; place and size of its key data in the message; 1, place and size of the data of the only KEY record of the
+// additional section, 0, 0 and 0 where there is none. Refused, in this order, with SIZE (4), FORMAT (6), NOTQUERY (7).
 #[no_mangle]
-pub extern "C" fn luffcringle_asks(message: &[u8], asked: &mut [u64; 9]) -> u64
+pub extern "C" fn luffcringle_asks(message: &[u8], asked: &mut [u64; 10]) -> u64
     ensures { λ r. ⌜ AsksTold (now (message .entry)) (asksOf (now (message .entry))) (now (asked .exit)) r ⌝ }
 {
     let a = asking::asks(message);

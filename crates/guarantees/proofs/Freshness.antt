@@ -25,11 +25,11 @@ use Rattle.model.specs.Names.{sameName, keyName}
 use Rattle.model.specs.Messages.{Message, readMessage}
 use Rattle.model.specs.Tsig.{signature}
 use Rattle.model.specs.Pairs.{withKeys, made, renewedKeys, renewed, adoptedKeys, adopted}
-use Rattle.model.specs.Tables.{Row, Table, noRow, rowAt, suffixAt, pairAt, withClock, withPair, namesOf, distinct, clockRule, tableRules}
+use Rattle.model.specs.Tables.{Row, Table, noRow, rowAt, suffixAt, pairAt, withClock, withPair, namesOf, distinct, serialRule, clockRule, tableRules}
 use Rattle.model.specs.Judging.{Holder, heldSuffix, heldPair, adoptedOf, waitingOf, judge, changed}
 use Rattle.model.specs.Replies.{granted, renewedReply, replyOf, grantedReply, secondOk}
 use Rattle.model.specs.Calls.{refusalAt, TIME, SIZE, OFFER, NOTQUERY, ROOM, Result, refusal, unchanged, timeFits, emptyTable, newTable, sizeOk, offerOk, roomFor, replyTo, replied, timeOf, signedBy, octetsOwner, ownerOf, holderAt, served, called, KEYREC}
-use Rattle.model.specs.Runs.{Operation, enrol, call, operated, operatedAll, Has, nextOf, suffixBy, suffixOf, keyRaised, keyMade, listed, namesMade, NoneSame, Distinct}
+use Rattle.model.specs.Runs.{Operation, enrol, close, call, operated, operatedAll, Has, nextOf, suffixBy, suffixOf, keyRaised, keyMade, listed, namesMade, NoneSame, Distinct}
 use Rattle.model.proofs.CallLaws.{passes-first, message-size, message-offer, message-response, message-room, message-done, message-keyrec}
 use Rattle.guarantees.specs.Freshness.{after, madeBy, Ask, asks, Decides, fitServes, Granted, AtOnce, Demand2}
 use Rattle.model.proofs.Tests.{both, not-so, by-check}
@@ -39,12 +39,14 @@ use Rattle.model.proofs.Rows.{at-member, set-has, same-next}
 use Rattle.guarantees.proofs.OneCall.{pass-rules}
 use Rattle.guarantees.proofs.Made.{Held, Event, New, new-name, raised, next-fits, next-row, owner-enrolled, call-made}
 use Rattle.guarantees.proofs.Enrolment.{enrol-made}
+use Rattle.guarantees.proofs.Closing.{close-made}
 
 -- ── One operation ───────────────────────────────────────────────────────────────────────────────────────────────────
 
 pub operation-made : (t : Table) (o : Operation) → tableRules t ≡ true → Event t (operated t o .table) (keyMade t o)
 unfolding operated suffixOf keyMade
 operation-made t (enrol time s lifetime fresh algorithm) r = enrol-made s lifetime fresh algorithm t time r
+operation-made t (close time number) r = close-made t time number r
 operation-made t (call c) r = call-made t c r
 
 pub operation-new : (t : Table) (o : Operation) (name : List ℕ) → keyMade t o ≡ some name → New t (operated t o .table) name
@@ -199,7 +201,7 @@ unfolding newTable emptyTable unchanged
 new-empty time = by-check (λ (r : Result). r .table .rows ≡ []) (unchanged (emptyTable 0)) TIME refl (timeFits time) (λ e. refl)
 
 new-rules : (time : ℕ) → tableRules (newTable (emptyTable 0) time .table) ≡ true
-unfolding newTable emptyTable unchanged tableRules namesOf distinct clockRule timeFits
+unfolding newTable emptyTable unchanged tableRules namesOf distinct serialRule clockRule timeFits
 new-rules time =
     by-check (λ (r : Result). tableRules (r .table) ≡ true) (unchanged (emptyTable 0)) TIME refl (ltb time 0xffff_8000_0000) λ e.
     let h : time < 0xffff_8000_0000 = ltb-true _ _ e in

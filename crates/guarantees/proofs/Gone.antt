@@ -8,7 +8,7 @@ use Prim.Native.Nat.{ℕ, suc, _^_, _≤_, _<_}
 use native.Mathlib.Omega.{arith}
 use lib.Dec.{leb, ltb}
 use lib.IntN.{ℤ}
-use lib.ListN.{length, getD, set}
+use lib.ListN.{length, getD, set, take, drop}
 use borrow.Author.Tests.{le-ltb}
 use Rattle.model.specs.declared.Algorithm.{Algorithm}
 use Rattle.model.specs.declared.Named.{Named}
@@ -28,8 +28,8 @@ use Rattle.model.specs.Tkey.{contentsOf}
 use Rattle.model.specs.Pairs.{withKeys, made, revokedKey, issued, renewedKeys, renewed, adoptedKeys, adopted, deleted, withdrawnKeys, withdrawn}
 use Rattle.model.specs.Tables.{Row, Table, noRow, rowAt, suffixAt, pairAt, withClock, withPair, namesOf, rowNamed, isNone, distinct, tableRules}
 use Rattle.model.specs.Judging.{notAuth, badKey, Holder, heldPair, heldSuffix, heldNumber, keyIf, isNamed, isKey, adoptedOf, waitingOf, signerOf, Given, Judged, unknown, inTime, step3, decide, judgeRead, judge, changed}
-use Rattle.model.specs.Calls.{breaks, refusalAt, DONE, SIZE, OFFER, FORMAT, NOTQUERY, ROOM, SPENT, TERM, Result, Step, refusal, unchanged, refuses, leaves, emptyTable, newTable, gate, Call, issue, timeOf, numberOwner, sizeOk, offerOk, roomFor, replyTo, replied, answered, messageStep, ownerOf, stepOf, holderAt, servedBy, served, called, KEYREC}
-use Rattle.model.specs.Runs.{Operation, call, operated, operatedAll, Has, nextOf, keyMade}
+use Rattle.model.specs.Calls.{breaks, refusalAt, DONE, SIZE, OFFER, FORMAT, NOTQUERY, ROOM, SPENT, TERM, Result, Step, refusal, unchanged, refuses, leaves, emptyTable, newTable, gate, Call, issue, timeOf, withoutRow, numberOwner, closed, closeOn, sizeOk, offerOk, roomFor, replyTo, replied, answered, messageStep, ownerOf, stepOf, holderAt, servedBy, served, called, KEYREC}
+use Rattle.model.specs.Runs.{Operation, close, call, operated, operatedAll, Has, nextOf, keyMade}
 use Rattle.model.proofs.Tests.{left, right, and-false, differs, by-check, by-place}
 use Rattle.model.proofs.RuleFacts.{KeyOk, KeysOk, PairOk}
 use Rattle.model.proofs.NameLaws.{same-refl, same-sym, same-on, key-same}
@@ -41,6 +41,7 @@ use Rattle.guarantees.specs.Gone.{KeyIn, Goes, lost, expired, SignedWith
 use Rattle.guarantees.proofs.OneCall.{pass-time, served-is}
 use Rattle.guarantees.proofs.Made.{Held, Event, next-fits, next-row, owner-enrolled}
 use Rattle.guarantees.proofs.Refusals.{demand1}
+use Rattle.guarantees.proofs.Closing.{none-left}
 use Rattle.guarantees.proofs.Freshness.{operation-made, operation-new, run-rules, is-done, waiting-is, last-rules}
 use Rattle.model.specs.Replies.{secondOk}
 
@@ -453,6 +454,16 @@ module _ (t : Table) (i : ℕ) (k : Key) (r : tableRules t ≡ true) where
         go true Unknown a b = not-refused 12 (issue-term clocked time number algorithm i w-at a b)
         go true (Known g) a b = loses below it (issued was time g) (issued-rows g a b) h (issued-without was time g (k .serial) (serial-below below h))
 
+  module _ (time number : ℕ) (e : gate t (some time) ≡ none) (w : numberOwner (namesOf t) number ≡ some i) where
+    closed-rows : operated t (close time number) .table .rows ≡ take i (t .rows) ++ drop (suc i) (t .rows)
+    unfolding operated closeOn closed withoutRow withClock namesOf
+    closed-rows = rw (e, w) refl
+
+    closes : Has (was .keys) k → Goes t (close time number) (suffixAt t i) k
+    unfolding namesOf suffixAt rowAt
+    closes h = lost (key-in (number-enrolled t time number 0 i w) h) λ x j m same q _.
+        differs _ (none-left (t .rows) i (number-enrolled t time number 0 i w) (all-distinct t r) (rw closed-rows at m)) same
+
 -- ── Messages that are signed ────────────────────────────────────────────────────────────────────────────────────────
 
 -- A test that a message is signed with a name and an algorithm.
@@ -514,6 +525,7 @@ demand8 = record {
     withdrawn = withdraws t i k r;
     dropped = drops t i k r;
     replaced = replaces t i k r;
+    closed = closes t i k r;
     judged = judges t i k r;
   };
 }

@@ -5,6 +5,7 @@ pub mod Places
 pub mod Runs
 pub mod Made
 pub mod Enrolment
+pub mod Closing
 pub mod Freshness
 pub mod Refusals
 pub mod Gone

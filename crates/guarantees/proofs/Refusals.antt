@@ -21,12 +21,12 @@ use Rattle.model.specs.Octets.{put, Reading, stops, reads}
 use Rattle.model.specs.Tables.{Table, noPair, rowAt, suffixAt, pairAt, withClock, namesOf, rowNamed, isNone, suffixOk, termOk, tableRules}
 use Rattle.model.specs.Judging.{Holder, nobody, heldNumber, heldPair, signerOf, Given, judge}
 use Rattle.model.specs.Checks.{check, checkPlace}
-use Rattle.model.specs.Calls.{refusalAt, breaks, DONE, TABLE, TIME, CLOCK, SIZE, OFFER, FORMAT, NOTQUERY, ROOM, NAME, TERM, TWIN, FULL, Outcome, Result, refusal, done, unchanged, timeFits, timeGoesOn, timeGate, gate, clockAt, newTable, withRow, enrolled, enrolPassed, enrolOn, Step, refuses, leaves, sizeOk, found, lookedUp, lookStep, offerOk, roomFor, replyTo, replied, answered, messageStep, Call, look, message, timeOf, ownerOf, stepOf, holderAt, servedBy, called, lookOn, messageOn, bufferAfter, KEYREC}
-use Rattle.model.specs.Runs.{Operation, enrol, call, operated}
+use Rattle.model.specs.Calls.{refusalAt, breaks, DONE, TABLE, TIME, CLOCK, SIZE, OFFER, FORMAT, NOTQUERY, ROOM, NOPAIR, SPENT, NAME, TERM, TWIN, FULL, Outcome, Result, refusal, done, unchanged, timeFits, timeGoesOn, timeGate, gate, clockAt, newTable, withRow, firstSerial, enrolled, enrolPassed, enrolOn, withoutRow, numberOwner, closed, closePassed, closeOn, Step, refuses, leaves, sizeOk, found, lookedUp, lookStep, offerOk, roomFor, replyTo, replied, answered, messageStep, Call, look, message, timeOf, ownerOf, stepOf, holderAt, servedBy, called, lookOn, messageOn, bufferAfter, KEYREC}
+use Rattle.model.specs.Runs.{Operation, enrol, close, call, operated}
 use Rattle.model.proofs.Buffers.{put-length}
 use Rattle.model.proofs.CallLaws.{holderBy, refused-first, passes-first, leaves-it, buffer-refused}
 use Rattle.guarantees.specs.Refusals.{isOne, ownRefusals, firstRefusals, refusalsOf, operationTime, movedBy, Safe, WrongRecord, Demand1}
-use Rattle.model.proofs.Tests.{left, by-check, by-place, by-known}
+use Rattle.model.proofs.Tests.{left, by-check, by-some, by-place, by-known}
 use Rattle.model.proofs.Decisions.{Allows, allows}
 use Rattle.guarantees.proofs.OneCall.{clock-at, sets-clock, clockBy, served-is}
 use Rattle.guarantees.proofs.Moves.{Ends, refused, finished, ends}
@@ -150,19 +150,20 @@ module _ (t : Table) (c : Call) where
 -- Enrolment.
 module _ (t : Table) (time : ℕ) (suffix : List ℕ) (lifetime fresh algorithm : ℕ) where
   abbrev enrolRefusals : List ℕ
-  enrolRefusals = NAME ∷ TERM ∷ TWIN ∷ FULL ∷ []
+  enrolRefusals = NAME ∷ TERM ∷ TWIN ∷ FULL ∷ SPENT ∷ []
 
   abbrev Enrols : Result → Type 0
   Enrols r = SafeBy t (some time) enrolRefusals r
 
   enrolled-safe : gate t (some time) ≡ none → Enrols (enrolled (withClock t time) suffix lifetime fresh algorithm)
-  unfolding enrolled unchanged refusal withRow done DONE NAME TERM TWIN FULL
+  unfolding enrolled unchanged refusal withRow done DONE NAME TERM TWIN FULL SPENT
   enrolled-safe e =
       by-check Enrols no NAME (refuse NAME refl) (suffixOk suffix) λ _.
       by-check Enrols no TERM (refuse TERM refl) (termOk lifetime fresh) λ _.
       by-known Enrols no TERM (refuse TERM refl) (algorithmNumbered algorithm) λ g _.
       by-check Enrols no TWIN (refuse TWIN refl) (isNone (rowNamed (namesOf (withClock t time)) suffix)) λ _.
       by-check Enrols no FULL (refuse FULL refl) (ltb (length (withClock t time .rows)) 64) λ _.
+      by-check Enrols no SPENT (refuse SPENT refl) (ltb (firstSerial (withClock t time)) 0x1_0000_0000) λ _.
       done-by t (some time) enrolRefusals _ refl refl (clock-then t (some time) enrolRefusals e)
     where
       no : ℕ → Result
@@ -179,10 +180,35 @@ module _ (t : Table) (time : ℕ) (suffix : List ℕ) (lifetime fresh algorithm 
       go (some n) e = refused-first-by t (some time) enrolRefusals n e
       go none e = enrolled-safe e
 
+-- Closing.
+module _ (t : Table) (time number : ℕ) where
+  abbrev closeRefusals : List ℕ
+  closeRefusals = NOPAIR ∷ []
+
+  abbrev Closes : Result → Type 0
+  Closes r = SafeBy t (some time) closeRefusals r
+
+  closed-safe : gate t (some time) ≡ none → Closes (closed (withClock t time) number)
+  unfolding closed unchanged refusal withoutRow done DONE NOPAIR
+  closed-safe e =
+      by-some Closes (unchanged (withClock t time)) NOPAIR (refused-later-by t (some time) closeRefusals NOPAIR 0 e refl (λ _. refl))
+      (numberOwner (namesOf (withClock t time)) number) λ i _.
+      done-by t (some time) closeRefusals _ refl refl (clock-then t (some time) closeRefusals e)
+
+  close-safe : Closes (closeOn t time number)
+  unfolding closeOn
+  close-safe = go (gate t (some time)) refl
+    where
+      go : (g : Option ℕ) → gate t (some time) ≡ g → Closes (closePassed t time number g)
+      go (some n) e = refused-first-by t (some time) closeRefusals n e
+      go none e = closed-safe e
+
 operation-safe : (t : Table) (o : Operation) → Safe t o
 unfolding operated refusalsOf operationTime
 operation-safe t (enrol time suffix lifetime fresh algorithm) =
     let s = enrol-safe t time suffix lifetime fresh algorithm in record { listed = s .listed-by; clock-moves = s .moves-by; refused-clean = s .clean-by; placed = s .placed-by }
+operation-safe t (close time number) =
+    let s = close-safe t time number in record { listed = s .listed-by; clock-moves = s .moves-by; refused-clean = s .clean-by; placed = s .placed-by }
 operation-safe t (call c) = let s = called-safe t c in record { listed = s .listed-by; clock-moves = s .moves-by; refused-clean = s .clean-by; placed = s .placed-by }
 
 -- ── The buffer ──────────────────────────────────────────────────────────────────────────────────────────────────────

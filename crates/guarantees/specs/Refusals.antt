@@ -15,7 +15,7 @@ use Rattle.model.specs.Messages.{Message, readMessage}
 use Rattle.model.specs.Tkey.{isKeyRecord}
 use Rattle.model.specs.Tables.{Table, withClock, namesOf}
 use Rattle.model.specs.Calls.{DONE, TABLE, TIME, CLOCK, SIZE, OFFER, FORMAT, NOTQUERY, ROOM, NOPAIR, NOKEY, SPENT, NAME, TERM, TWIN, FULL, refusalAt, done, unchanged, gate, emptyTable, newTable, timeFits, Call, issue, revoke, look, message, timeOf, ownerOf, holderAt, lookOn, messageOn, bufferAfter, KEYREC}
-use Rattle.model.specs.Runs.{Operation, enrol, call, operated}
+use Rattle.model.specs.Runs.{Operation, enrol, close, call, operated}
 use Rattle.model.specs.Judging.{Holder, Given, judge}
 
 abbrev pub isOne : ℕ → List ℕ → Bool
@@ -23,7 +23,8 @@ isOne n [] = false
 isOne n (m ∷ ms) = eqb n m || isOne n ms
 
 -- 01, "Numbers a caller sees": "The order is 1, 2, 3, then for a message 4 to 8, for issue 9, 11, 13, for revoke 9, 10, for enrol 12 to 15. Look gives
--- 1, 4, 6 and 7 only." 02, CR 10 puts 19 before a message's 8.
+-- 1, 4, 6 and 7 only." 02, CR 10 puts 19 before a message's 8; CR 9: "1 to 3, then NOPAIR for closing; enrolment is SPENT ..,
+-- after FULL".
 unfoldable pub ownRefusals : Call → List ℕ
 ownRefusals (issue time number algorithm) = NOPAIR ∷ SPENT ∷ TERM ∷ []
 ownRefusals (revoke time number) = NOPAIR ∷ NOKEY ∷ []
@@ -35,11 +36,13 @@ firstRefusals none own = TABLE ∷ own
 firstRefusals (some time) own = TABLE ∷ TIME ∷ CLOCK ∷ own
 
 unfoldable pub refusalsOf : Operation → List ℕ
-refusalsOf (enrol time suffix lifetime fresh algorithm) = firstRefusals (some time) (NAME ∷ TERM ∷ TWIN ∷ FULL ∷ [])
+refusalsOf (enrol time suffix lifetime fresh algorithm) = firstRefusals (some time) (NAME ∷ TERM ∷ TWIN ∷ FULL ∷ SPENT ∷ [])
+refusalsOf (close time number) = firstRefusals (some time) (NOPAIR ∷ [])
 refusalsOf (call c) = firstRefusals (timeOf c) (ownRefusals c)
 
 unfoldable pub operationTime : Operation → Option ℕ
 operationTime (enrol time suffix lifetime fresh algorithm) = some time
+operationTime (close time number) = some time
 operationTime (call c) = timeOf c
 
 -- The clock after a call: its time, if it has one and nothing refused it at the gate.
@@ -48,7 +51,7 @@ movedBy (some refused) time clock = clock
 movedBy none none clock = clock
 movedBy none (some time) clock = time
 
--- Enrolment, issue, revoke early, look or message, on any table.
+-- Enrolment, closing, issue, revoke early, look or message, on any table.
 pub record Safe (t : Table) (o : Operation) : Type 0 where
   -- it ends with DONE or with a number of its own list
   pub listed : isOne (operated t o .outcome .answer .number) (DONE ∷ refusalsOf o) ≡ true

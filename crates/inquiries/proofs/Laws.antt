@@ -16,7 +16,7 @@ use Rattle.model.specs.Octets.{put, overlay}
 use Rattle.model.specs.Names.{wireName, keyName, afterLabel}
 use Rattle.model.specs.Tables.{Table, rowAt, suffixAt, pairAt, namesOf, rowNamed, pairRule, tableRules}
 use Rattle.model.specs.Calls.{DONE, TABLE, ROOM, NOPAIR, NOKEY, NAME, numberOwner}
-use Rattle.model.specs.Inquiries.{tested, unfound, foundIn, pairNamed, pairSuffixed, pairOfKey, Spelt, unspelt, wasIssued, speltIn, keyNameIn, keyNameOf, unshown, shownIn, pairShown, adoptedSerial, waitingSerial, isAmong, unless}
+use Rattle.model.specs.Inquiries.{tested, unfound, foundIn, pairNamed, pairSuffixed, pairOfKey, Spelt, unspelt, belowNext, speltIn, keyNameIn, keyNameOf, unshown, shownIn, pairShown, adoptedSerial, waitingSerial, isAmong, unless}
 use Rattle.model.proofs.Tests.{left, right}
 use Rattle.model.proofs.Rows.{tests, every-member, at-member, row-below}
 use Rattle.model.proofs.RuleFacts.{pair-sound}
@@ -153,7 +153,7 @@ pub spells-refused : {a : Spelt} (b : List ℕ) (n : ℕ) {r : Spelling} → a �
 unfolding unspelt put
 spells-refused b n is e = rw (is, e) (record { number = refl; length = refl; left = refl })
 
-module _ (t : Table) (serial room i : ℕ) (b : Bool) {p : Pair} (p-is : p ≡ pairAt t i) (is : b ≡ wasIssued p serial) where
+module _ (t : Table) (serial room i : ℕ) (b : Bool) {p : Pair} (p-is : p ≡ pairAt t i) (is : b ≡ belowNext p serial) where
   pub never-issued : b ≡ false → keyNameIn t serial room i ≡ unspelt 10
   unfolding keyNameIn NOKEY
   never-issued e = rw (sym p-is, sym is ∙ e) refl
@@ -165,7 +165,7 @@ module _ (t : Table) (serial room i : ℕ) (b : Bool) {p : Pair} (p-is : p ≡ p
 
     -- a serial that was issued has 32 bits
     pub issued-short : tableRules t ≡ true → i < length (t .rows) → serial < 2 ^ 32
-    unfolding wasIssued pairAt rowAt
+    unfolding belowNext pairAt rowAt
     issued-short rules h =
         let low = ltb-true serial (p .«next_serial») (right (leb 1 serial) (ltb serial (p .«next_serial»)) (sym is ∙ e)) in
         let rule = every-member (λ x. pairRule (t .clock) (x .pair)) (t .rows) (tests t rules .1 .1 .1 .1 .0) (at-member (t .rows) i _ h) in

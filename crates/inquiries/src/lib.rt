@@ -16,7 +16,7 @@ ghost use mathlib.Core.List.{_++_};
 ghost use lib.ListN.{length, take};
 ghost use Rattle.model.specs.Names.{keyName, afterLabel};
 ghost use Rattle.model.specs.Tables.{tableRules};
-ghost use Rattle.model.specs.Inquiries.{tested, unfound, pairNamed, pairSuffixed, pairOfKey, wasIssued, speltIn, keyNameIn, keyNameOf, unshown, pairShown, adoptedSerial, waitingSerial, unless, movesOf};
+ghost use Rattle.model.specs.Inquiries.{tested, unfound, pairNamed, pairSuffixed, pairOfKey, belowNext, speltIn, keyNameIn, keyNameOf, unshown, pairShown, adoptedSerial, waitingSerial, unless, movesOf};
 ghost use Rattle.store.specs.Layout.{keysAt, pairWords, layoutRule, tableOf};
 ghost use Rattle.inquiries.specs.Inquired.{PairTold, Spells};
 
@@ -232,8 +232,8 @@ fn not_spelt(number: u64) -> Spelling
     Spelling { number, length: 0 }
 }
 
-fn was_issued(p: Pair, serial: u64) -> bool
-    ensures { λ r. ⌜ r ≡ wasIssued p serial ⌝ }
+fn below_next(p: Pair, serial: u64) -> bool
+    ensures { λ r. ⌜ r ≡ belowNext p serial ⌝ }
 {
     (1 <= serial) & (serial < p.next_serial)
 }
@@ -271,14 +271,14 @@ fn key_name_in(words: &[u64], suffixes: &[u8], row: usize, serial: u64, out: &mu
     requires { ⌜ (tableRules (tableOf (now words) (now suffixes)) ≡ true) × (row < length (tableOf (now words) (now suffixes) .rows)) ⌝ }
     ensures { λ r. ⌜ Spells (keyNameIn (tableOf (now (words .entry)) (now (suffixes .entry))) serial (length (now (out .entry))) row) (now (out .entry)) (now (out .exit)) r ⌝ }
 {
-    if !was_issued(outcomes::pair_of(words, suffixes, row), serial) {
+    if !below_next(outcomes::pair_of(words, suffixes, row), serial) {
         return not_spelt(10);
     }
     spell(out, serial, outcomes::suffix_of(words, suffixes, row))
 }
 
 // The name of the key with this serial, there or gone, in the pair of this number, into the first octets of `out`. Refused, in this order, with TABLE (1),
-// NOPAIR (9), NOKEY (10: it was never issued), ROOM (8).
+// NOPAIR (9), NOKEY (10: it is 0, or not below the pair's next one), ROOM (8).
 pub fn key_name(words: &[u64], suffixes: &[u8], pair: u64, serial: u64, out: &mut [u8]) -> Spelling
     ensures { λ r. ⌜ Spells (keyNameOf (tableOf (now (words .entry)) (now (suffixes .entry))) pair serial (length (now (out .entry)))) (now (out .entry)) (now (out .exit)) r ⌝ }
 {

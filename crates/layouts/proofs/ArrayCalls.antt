@@ -18,11 +18,11 @@ use Rattle.model.specs.Messages.{Message, readMessage}
 use Rattle.model.specs.Tsig.{Signature, unsigned, misplaced, wellPlaced, signature}
 use Rattle.model.specs.Pairs.{issued}
 use Rattle.model.specs.Tables.{Row, Table, noPair, rowAt, suffixAt, pairAt, withPair, namesOf, rowNamed, isNone, suffixOk, termOk, tableRules}
-use Rattle.model.specs.Checks.{check, checkKnown}
+use Rattle.model.specs.Checks.{check, checkSome, checkKnown}
 use Rattle.model.specs.Judging.{Holder, holder}
-use Rattle.model.specs.Calls.{TABLE, TIME, timeFits, emptyTable, newTable, NAME, TERM, TWIN, FULL, Outcome, Result, refusal, done, unchanged, gate, clockAt, withRow, firstSerial, freshPair, enrolled, enrolPassed, enrolOn, sizeOk, Call, issue, revoke, look, message, timeOf, signedBy, readBy, octetsOwner, numberOwner, ownerOf, stepOf, holderAt, servedBy, served, passed, called}
+use Rattle.model.specs.Calls.{TABLE, TIME, timeFits, emptyTable, newTable, NOPAIR, SPENT, NAME, TERM, TWIN, FULL, Outcome, Result, refusal, done, unchanged, gate, clockAt, withRow, firstSerial, freshPair, enrolled, enrolPassed, enrolOn, withoutRow, closed, closePassed, closeOn, sizeOk, Call, issue, revoke, look, message, timeOf, signedBy, readBy, octetsOwner, numberOwner, ownerOf, stepOf, holderAt, servedBy, served, passed, called}
 use Rattle.model.specs.declared.BatchItem.{BatchItem}
-use Rattle.model.specs.Runs.{Operation, enrol, call, operated}
+use Rattle.model.specs.Runs.{Operation, enrol, close, call, operated}
 use Rattle.model.specs.Batches.{BATCH, batchOk, itemCall, Batched, refusedWhole, behind, inTurn, batchOn}
 use Rattle.model.proofs.Buffers.{overlay-length}
 use Rattle.model.proofs.Rows.{few}
@@ -30,8 +30,8 @@ use Rattle.model.proofs.Tests.{left, right}
 use Rattle.guarantees.proofs.OneCall.{served-is, pass-rules}
 use Rattle.guarantees.proofs.Made.{owner-enrolled}
 use Rattle.layouts.specs.Runs.{Act, new, on, batch, Ended, single, acted, Does, Ran}
-use Rattle.layouts.specs.Array.{Array, Sized, suffixIn, rowIn, rowsIn, viewOf, rowOf, putClock, putPair, putRow, signedIn, readIn, octetsIn, numberIn, ownerIn, holderIn, refusedIn, servedIn, calledIn, enrolledIn, enrolIn, newIn, operatedIn, refusedAll, turnIn, actedIn, runIn}
-use Rattle.layouts.proofs.ArrayLaws.{view-at, view-count, view-clock, view-put, view-row, search-same, names-count}
+use Rattle.layouts.specs.Array.{Array, Sized, suffixIn, rowIn, rowsIn, viewOf, rowOf, putClock, putPair, putRow, putOut, signedIn, readIn, octetsIn, numberIn, ownerIn, holderIn, refusedIn, servedIn, calledIn, enrolledIn, enrolIn, closedIn, closeIn, newIn, operatedIn, refusedAll, turnIn, actedIn, runIn}
+use Rattle.layouts.proofs.ArrayLaws.{view-at, view-count, view-clock, view-put, view-row, closed-length, view-out, search-same, names-count}
 
 -- What an operation leaves, as it is shown.
 abbrev result : Array × Outcome → Result
@@ -132,7 +132,7 @@ module _ (a : Array) (z : Sized a) (suffix : List ℕ) (lifetime fresh algorithm
 
   -- the pair that is added
   abbrev added : Algorithm → Pair
-  added g = issued (freshPair 1 lifetime fresh) (a .clock) g
+  added g = issued (freshPair (a .floor) lifetime fresh) (a .clock) g
 
   row-same : (g : Algorithm) → suffixOk suffix ≡ true → ltb (a .count) 64 ≡ true → viewOf (putRow a suffix (added g)) ≡ withRow (viewOf a) suffix (added g)
   row-same g ok e = view-row a suffix (added g) z (ltb-true (a .count) 64 e) (short ok)
@@ -145,7 +145,26 @@ module _ (a : Array) (z : Sized a) (suffix : List ℕ) (lifetime fresh algorithm
       known-same a TERM (algorithmNumbered algorithm) _ _ λ g.
       check-same a TWIN (isNone (rowNamed (namesOf (viewOf a)) suffix)) (isNone (rowOf a suffix)) _ _ (ap (λ (o : Option ℕ). isNone o) (sym (search-same a suffix))) λ lone.
       check-same a FULL (ltb (length (viewOf a .rows)) 64) (ltb (a .count) 64) _ _ (ap (λ (n : ℕ). ltb n 64) (view-count a)) λ room.
-      ap₂ {C = Result} (λ (t : Table) (n : ℕ). record { table = t; outcome = done (n + 1) 1 }) (sym (row-same g ok room)) (view-count a)
+      check-same a SPENT (ltb (a .floor) 0x1_0000_0000) (ltb (a .floor) 0x1_0000_0000) _ _ refl λ left.
+      ap₂ {C = Result} (λ (t : Table) (n : ℕ). record { table = t; outcome = done (n + 1) (a .floor) }) (sym (row-same g ok room)) (view-count a)
+
+-- ── Closing ─────────────────────────────────────────────────────────────────────────────────────────────────────────
+
+-- a pair's number is that of a row
+number-enrolled : (a : Array) (number i : ℕ) → numberIn a number ≡ some i → i < a .count
+unfolding ownerOf
+number-enrolled a number i e =
+    let h : i < length (viewOf a .rows) = owner-enrolled (viewOf a) (revoke 0 number) i (sym (number-same a number) ∙ e) in
+    let n : length (viewOf a .rows) ≡ a .count = view-count a in
+    omega arith
+
+closed-same : (a : Array) → Sized a → a .count ≤ 64 → (number : ℕ) → closed (viewOf a) number ≡ result (closedIn a number)
+unfolding closed closedIn unchanged
+closed-same a z room number = ap (λ (o : Option ℕ). checkSome (unchanged (viewOf a)) NOPAIR o (λ i. record { table = withoutRow (viewOf a) i; outcome = done 0 0 })) (sym (number-same a number)) ∙ go (numberIn a number) refl
+  where
+    go : (o : Option ℕ) → numberIn a number ≡ o → checkSome (unchanged (viewOf a)) NOPAIR o (λ i. record { table = withoutRow (viewOf a) i; outcome = done 0 0 }) ≡ result (checkSome (refusedIn a) NOPAIR o (λ i. (putOut a i, done 0 0)))
+    go none e = refl
+    go (some i) e = ap {B = Result} (λ (t : Table). record { table = t; outcome = done 0 0 }) (sym (view-out a i z room (number-enrolled a number i e)))
 
 -- ── Every operation, and what it leaves of the arrays ───────────────────────────────────────────────────────────────
 
@@ -159,9 +178,17 @@ module _ (a : Array) (z : Sized a) where
       ap (λ (t : Table). enrolled t suffix lifetime fresh algorithm) (sym (view-clock a (some time)))
       ∙ enrolled-same (putClock a (some time)) (sized-clock a (some time) z) suffix lifetime fresh algorithm
 
+  close-same : (time number : ℕ) (g : Option ℕ) → gate (viewOf a) (some time) ≡ g → closePassed (viewOf a) time number g ≡ result (closeIn a time number g)
+  unfolding unchanged
+  close-same time number (some n) e = refl
+  close-same time number none e =
+      ap (λ (t : Table). closed t number) (sym (view-clock a (some time)))
+      ∙ closed-same (putClock a (some time)) (sized-clock a (some time) z) (rows-few a (some time) e) number
+
   operates : (o : Operation) → operated (viewOf a) o ≡ result (operatedIn a o)
-  unfolding operated operatedIn enrolOn called
+  unfolding operated operatedIn enrolOn closeOn called
   operates (enrol time suffix lifetime fresh algorithm) = enrol-same time suffix lifetime fresh algorithm (gate (viewOf a) (some time))
+  operates (close time number) = close-same time number (gate (viewOf a) (some time)) refl
   operates (call c) = called-same a z c (gate (viewOf a) (timeOf c)) refl
 
   news : (time : ℕ) → newTable (viewOf a) time ≡ result (newIn a time)
@@ -208,15 +235,38 @@ module _ (a : Array) (z : Sized a) where
       known TERM (algorithmNumbered algorithm) _ λ g.
       checked TWIN (isNone (rowOf a suffix)) _ λ lone.
       checked FULL (ltb (a .count) 64) _ λ room.
+      checked SPENT (ltb (a .floor) 0x1_0000_0000) _ λ left.
       sized-row a suffix _ (ltb-true (a .count) 64 room) (short a z suffix lifetime fresh algorithm ok) z
 
 sized-enrol : (a : Array) (time : ℕ) (suffix : List ℕ) (lifetime fresh algorithm : ℕ) (g : Option ℕ) → Sized a → Sized (enrolIn a time suffix lifetime fresh algorithm g .0)
 sized-enrol a time suffix lifetime fresh algorithm (some n) z = z
 sized-enrol a time suffix lifetime fresh algorithm none z = sized-enrolled (putClock a (some time)) (sized-clock a (some time) z) suffix lifetime fresh algorithm
 
+sized-out : (a : Array) (i : ℕ) → i < 64 → Sized a → Sized (putOut a i)
+unfolding putOut
+sized-out a i h z =
+    record {
+      octets = closed-length (i * 128) 128 (a .suffixes) (omega (arith, z .octets)) ∙ z .octets;
+      sizes = closed-length i 1 (a .lengths) (omega (arith, z .sizes)) ∙ z .sizes;
+      slots = closed-length i 1 (a .pairs) (omega (arith, z .slots)) ∙ z .slots;
+    }
+
+sized-closed : (a : Array) (number : ℕ) → a .count ≤ 64 → Sized a → Sized (closedIn a number .0)
+unfolding closedIn
+sized-closed a number few z = go (numberIn a number) refl
+  where
+    go : (o : Option ℕ) → numberIn a number ≡ o → Sized (checkSome (refusedIn a) NOPAIR o (λ i. (putOut a i, done 0 0)) .0)
+    go none e = z
+    go (some i) e = sized-out a i (omega (arith, number-enrolled a number i e)) z
+
+sized-close : (a : Array) (time number : ℕ) (g : Option ℕ) → gate (viewOf a) (some time) ≡ g → Sized a → Sized (closeIn a time number g .0)
+sized-close a time number (some n) e z = z
+sized-close a time number none e z = sized-closed (putClock a (some time)) number (rows-few a (some time) e) (sized-clock a (some time) z)
+
 sized-after : (a : Array) (o : Operation) → Sized a → Sized (operatedIn a o .0)
 unfolding operatedIn
 sized-after a (enrol time suffix lifetime fresh algorithm) z = sized-enrol a time suffix lifetime fresh algorithm (gate (viewOf a) (some time)) z
+sized-after a (close time number) z = sized-close a time number (gate (viewOf a) (some time)) refl z
 sized-after a (call c) z = sized-called a c (gate (viewOf a) (timeOf c)) z
 
 sized-new : (a : Array) (time : ℕ) → Sized a → Sized (newIn a time .0)

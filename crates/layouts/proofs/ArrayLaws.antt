@@ -3,21 +3,25 @@ use mathlib.Core.Path.{_≡_, refl, sym, ap, ap₂, _∙_}
 use mathlib.Core.Bool.{Bool, true, false, cond, _&&_}
 use mathlib.Core.Option.{Option, none, some}
 use mathlib.Core.List.{List, [], _∷_, _++_, map}
-use Prim.Native.Nat.{ℕ, zero, suc, _+_, _-_, _*_, _≤_, _<_}
-use native.Mathlib.Decide.{ℕ-discrete}
+use Prim.Native.Nat.{ℕ, zero, suc, _+_, _-_, _*_, _≤_, _<_, max}
+use native.Mathlib.Decide.{decLt, ℕ-discrete}
 use native.Mathlib.Numerals.{add-one}
 use native.Mathlib.Omega.{arith}
 use lib.Dec.{leb, ltb}
-use lib.ListN.{length, getD, set, length-set, length-map}
-use lib.Seq.{getD-set-same, getD-set-other, ext-getD}
+use lib.ListN.{length, getD, set, take, drop, length-set, length-map, length-append, length-drop, List·getD-append}
+use lib.Seq.{getD-set-same, getD-set-other, ext-getD, length-take-le, getD-take, getD-drop, getD-append-add}
 use borrow.Author.Tests.{leb-true, le-leb}
 use Rattle.model.specs.declared.Pair.{Pair}
 use Rattle.model.specs.Octets.{part, overlay}
 use Rattle.model.specs.Names.{sameName}
 use Rattle.model.specs.Tables.{Row, Table, noPair, noRow, rowAt, suffixAt, pairAt, withClock, withPair, namesOf, namedFrom, rowNamed}
-use Rattle.model.specs.Calls.{clockAt, withRow}
+use Rattle.model.specs.Calls.{clockAt, withRow, withoutRow}
 use Rattle.model.proofs.Buffers.{overlay-before, overlay-there}
-use Rattle.layouts.specs.Array.{Array, Sized, suffixIn, rowIn, rowsIn, viewOf, searched, rowOf, putClock, putPair, putRow}
+use Rattle.inserting.specs.Insert.{upFrom}
+use Rattle.inserting.proofs.Moving.{up-low, up-high}
+use Rattle.inserting.proofs.Inserting.{part-ext, up-most}
+use Rattle.removing.proofs.Removing.{without-at}
+use Rattle.layouts.specs.Array.{Array, Sized, suffixIn, rowIn, rowsIn, viewOf, searched, rowOf, putClock, putPair, putRow, closeUp, putOut}
 
 -- ── Rows ────────────────────────────────────────────────────────────────────────────────────────────────────────────
 
@@ -56,7 +60,7 @@ view-count t = rows-length t (t .count) 0
 pub view-clock : (t : Array) (time : Option ℕ) → viewOf (putClock t time) ≡ clockAt (viewOf t) time
 unfolding viewOf withClock rowIn putClock suffixIn
 view-clock t none = refl
-view-clock t (some time) = ap {B = Table} (λ (l : List Row). record { clock = time; rows = l }) (rows-alike (putClock t (some time)) t (t .count) (λ i h. refl))
+view-clock t (some time) = ap {B = Table} (λ (l : List Row). record { clock = time; floor = t .floor; rows = l }) (rows-alike (putClock t (some time)) t (t .count) (λ i h. refl))
 
 -- ── A row stored ────────────────────────────────────────────────────────────────────────────────────────────────────
 
@@ -98,7 +102,7 @@ module _ (t : Array) (i : ℕ) (p : Pair) (room : length (t .pairs) ≡ 64) (few
   pub view-put : viewOf (putPair t i p) ≡ withPair (viewOf t) i p
   unfolding viewOf withPair putPair
   view-put =
-      ap {B = Table} (λ (l : List Row). record { clock = t .clock; rows = l })
+      ap {B = Table} (λ (l : List Row). record { clock = t .clock; floor = t .floor; rows = l })
       (rows-put ∙ ap (λ (s : List ℕ). set (rowsIn t (t .count) 0) i (record { suffix = s; pair = p })) (sym suffix-shown))
 
 -- ── A row more ──────────────────────────────────────────────────────────────────────────────────────────────────────
@@ -157,10 +161,102 @@ module _ (t : Array) (s : List ℕ) (p : Pair) (z : Sized t) (room : t .count < 
   unfolding viewOf withRow putRow
   view-row =
       let z : 0 + t .count ≡ t .count = omega arith in
-      ap {B = Table} (λ (l : List Row). record { clock = t .clock; rows = l })
+      ap {B = Table} (λ (l : List Row). record { clock = t .clock; floor = t .floor; rows = l })
       (ap (λ (k : ℕ). rowsIn (putRow t s p) k 0) (add-one (t .count))
       ∙ snoc (putRow t s p) (t .count) 0
       ∙ ap₂ (λ (l : List Row) (r : Row). l ++ (r ∷ [])) (rows-alike (putRow t s p) t (t .count) row-kept-too) (ap (rowIn (putRow t s p)) z ∙ row-added))
+
+-- ── A row less ──────────────────────────────────────────────────────────────────────────────────────────────────────
+
+module _ {A : Type 0} (i n : ℕ) (xs : List A) (fits : i + n ≤ length xs) where
+  front : length (take i xs) ≡ i
+  front = length-take-le i xs (omega arith)
+
+  pub closed-length : length (closeUp i n xs) ≡ length xs
+  unfolding closeUp
+  closed-length =
+      length-append (take i xs) (drop (i + n) xs ++ drop (length xs - n) xs)
+      ∙ omega (arith, front, length-append (drop (i + n) xs) (drop (length xs - n) xs), length-drop (i + n) xs, length-drop (length xs - n) xs)
+
+  closed-low : (k : ℕ) (d : A) → k < i → getD (closeUp i n xs) k d ≡ getD xs k d
+  unfolding closeUp
+  closed-low k d h = List·getD-append (take i xs) _ d k (omega (arith, front)) ∙ getD-take i xs k d h
+
+  closed-high : (k : ℕ) (d : A) → i ≤ k → k + n < length xs → getD (closeUp i n xs) k d ≡ getD xs (k + n) d
+  unfolding closeUp
+  closed-high k d h l =
+      let e : k ≡ length (take i xs) + (k - i) = omega (arith, front) in
+      let f : i + n + (k - i) ≡ k + n = omega arith in
+      ap (λ (j : ℕ). getD (take i xs ++ (drop (i + n) xs ++ drop (length xs - n) xs)) j d) e
+      ∙ getD-append-add (take i xs) (drop (i + n) xs ++ drop (length xs - n) xs) (k - i) d
+      ∙ List·getD-append (drop (i + n) xs) (drop (length xs - n) xs) d (k - i) (omega (arith, length-drop (i + n) xs))
+      ∙ getD-drop (i + n) xs (k - i) d
+      ∙ ap (λ (j : ℕ). getD xs j d) f
+
+-- an array of one element for each row
+one-out : {A : Type 0} (i j : ℕ) (xs : List A) (d : A) → i < length xs → j + 1 < length xs → getD (closeUp i 1 xs) j d ≡ getD xs (upFrom i j) d
+one-out {A} i j xs d h l = go (decLt j i)
+  where
+    go : Dec (j < i) → getD (closeUp i 1 xs) j d ≡ getD xs (upFrom i j) d
+    go (yes a) = rw (up-low a) (closed-low i 1 xs (omega arith) j d a)
+    go (no a) = rw (up-high {g = i} {q = j} (omega arith)) (closed-high i 1 xs (omega arith) j d (omega arith) (omega arith))
+
+-- the octets, 128 for each
+octet-out : (i j k : ℕ) (xs : List ℕ) → length xs ≡ 8192 → i < 64 → j + 1 < 64 → k < 128 → getD (closeUp (i * 128) 128 xs) (j * 128 + k) 0 ≡ getD xs (upFrom i j * 128 + k) 0
+octet-out i j k xs long h l c = go (decLt j i)
+  where
+    go : Dec (j < i) → getD (closeUp (i * 128) 128 xs) (j * 128 + k) 0 ≡ getD xs (upFrom i j * 128 + k) 0
+    go (yes a) = rw (up-low a) (closed-low (i * 128) 128 xs (omega arith) (j * 128 + k) 0 (omega arith))
+    go (no a) =
+        let e : (j + 1) * 128 + k ≡ j * 128 + k + 128 = omega arith in
+        rw (up-high {g = i} {q = j} (omega arith), e) (closed-high (i * 128) 128 xs (omega arith) (j * 128 + k) 0 (omega arith) (omega arith))
+
+module _ (t : Array) (i : ℕ) (z : Sized t) (few : t .count ≤ 64) (below : i < t .count) where
+  module _ (j : ℕ) (h : j < t .count - 1) where
+    inside : upFrom i j < t .count
+    inside = omega (arith, up-most i j)
+
+    suffix-out : suffixIn (putOut t i) j ≡ suffixIn t (upFrom i j)
+    unfolding suffixIn putOut
+    suffix-out =
+        ap (λ (n : ℕ). cond (leb n 128) (part (closeUp (i * 128) 128 (t .suffixes)) (j * 128) n) []) (one-out i j (t .lengths) 0 (omega (arith, z .sizes)) (omega (arith, z .sizes)))
+        ∙ go (leb (getD (t .lengths) (upFrom i j) 0) 128) refl
+      where
+        go : (b : Bool) → leb (getD (t .lengths) (upFrom i j) 0) 128 ≡ b → cond b (part (closeUp (i * 128) 128 (t .suffixes)) (j * 128) (getD (t .lengths) (upFrom i j) 0)) [] ≡ cond b (part (t .suffixes) (upFrom i j * 128) (getD (t .lengths) (upFrom i j) 0)) []
+        go true e =
+            let n : getD (t .lengths) (upFrom i j) 0 ≤ 128 = leb-true _ _ e in
+            part-ext (closeUp (i * 128) 128 (t .suffixes)) (t .suffixes) (j * 128) (upFrom i j * 128) (getD (t .lengths) (upFrom i j) 0)
+            (omega (arith, closed-length (i * 128) 128 (t .suffixes) (omega (arith, z .octets)), z .octets))
+            (omega (arith, inside, z .octets))
+            (λ k c. octet-out i j k (t .suffixes) (z .octets) (omega arith) (omega arith) (omega arith))
+        go false e = refl
+
+    row-out : rowIn (putOut t i) j ≡ rowIn t (upFrom i j)
+    unfolding rowIn putOut
+    row-out = ap₂ {C = Row} (λ (x : List ℕ) (q : Pair). record { suffix = x; pair = q }) suffix-out (one-out i j (t .pairs) noPair (omega (arith, z .slots)) (omega (arith, z .slots)))
+
+  rows-out : rowsIn (putOut t i) (t .count - 1) 0 ≡ take i (rowsIn t (t .count) 0) ++ drop (suc i) (rowsIn t (t .count) 0)
+  rows-out =
+      let b = rows-length t (t .count) 0 in
+      let a = rows-length (putOut t i) (t .count - 1) 0 in
+      ext-getD noRow _ _ (a ∙ sym many) λ j h.
+      let k : j < t .count - 1 = omega arith in
+      let e : 0 + j ≡ j = omega arith in
+      let f : 0 + upFrom i j ≡ upFrom i j = omega arith in
+      rows-from (putOut t i) (t .count - 1) 0 j k ∙ ap (rowIn (putOut t i)) e ∙ row-out j k
+      ∙ sym (without-at (rowsIn t (t .count) 0) i j noRow (omega arith) ∙ rows-from t (t .count) 0 (upFrom i j) (inside j k) ∙ ap (rowIn t) f)
+    where
+      many : length (take i (rowsIn t (t .count) 0) ++ drop (suc i) (rowsIn t (t .count) 0)) ≡ t .count - 1
+      many =
+          let b = rows-length t (t .count) 0 in
+          length-append (take i (rowsIn t (t .count) 0)) (drop (suc i) (rowsIn t (t .count) 0))
+          ∙ omega (arith, b, length-take-le i (rowsIn t (t .count) 0) (omega (arith, b)), length-drop (suc i) (rowsIn t (t .count) 0))
+
+  pub view-out : viewOf (putOut t i) ≡ withoutRow (viewOf t) i
+  unfolding viewOf withoutRow putOut
+  view-out =
+      ap₂ {C = Table} (λ (f : ℕ) (l : List Row). record { clock = t .clock; floor = f; rows = l })
+      (ap (λ (p : Pair). max (t .floor) (p .«next_serial»)) (sym (view-pair-at t i below))) rows-out
 
 -- ── The search ──────────────────────────────────────────────────────────────────────────────────────────────────────
 

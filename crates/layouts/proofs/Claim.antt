@@ -6,8 +6,8 @@ use mathlib.Core.Option.{Option, some}
 use mathlib.Core.Path.{_≡_, refl, sym, ap, ap₂, _∙_}
 use lib.ListN.{length}
 use Rattle.model.specs.Tables.{Table, tableRules}
-use Rattle.model.specs.Calls.{DONE, TABLE, Result, unchanged, gate, enrolPassed, enrolOn, timeOf, passed, called, issueOn, revokeOn, lookOn, messageOn, bufferAfter}
-use Rattle.model.specs.Runs.{Operation, enrol, call, operated}
+use Rattle.model.specs.Calls.{DONE, TABLE, Result, unchanged, gate, enrolPassed, enrolOn, closePassed, closeOn, timeOf, passed, called, issueOn, revokeOn, lookOn, messageOn, bufferAfter}
+use Rattle.model.specs.Runs.{Operation, enrol, close, call, operated}
 use Rattle.model.specs.Batches.{Batched, batchOn, batchBuffer}
 use Rattle.model.specs.Listing.{listing}
 use Rattle.model.proofs.Listings.{listing-inj}
@@ -48,8 +48,9 @@ module _ (t : Table) (e : tableRules t ≡ false) where
   shut time = rw e refl
 
   refused : (o : Operation) → operated t o ≡ unchanged t TABLE
-  unfolding operated enrolOn called
+  unfolding operated enrolOn closeOn called
   refused (enrol time suffix lifetime fresh algorithm) = ap (enrolPassed t time suffix lifetime fresh algorithm) (shut (some time))
+  refused (close time number) = ap (closePassed t time number) (shut (some time))
   refused (call c) = ap (passed t c) (shut (timeOf c))
 
 covered : Covered
@@ -71,6 +72,7 @@ unfolding shownIn acted operated issueOn revokeOn lookOn messageOn bufferAfter b
 contracts = record {
   news = λ time w s w′ a long wide v. ap single (sym (v .says ∙ new-in time w s long wide (tableOf w s)));
   enrols = λ time suffix lifetime fresh algorithm w s w′ s′ a v. ap single (sym (v .says));
+  closes = λ time pair w s w′ s′ a v. ap single (sym (v .says));
   issues = λ time pair algorithm w s w′ s′ a v. ap single (sym (v .says));
   revokes = λ time pair w s w′ s′ a v. ap single (sym (v .says));
   looks = λ m w s a e. ap single (sym e);

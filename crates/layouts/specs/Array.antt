@@ -1,11 +1,12 @@
 -- The layout before 02, CR 11: rows in order of enrolment, their suffixes, lengths and pairs in three arrays, and found by comparing one row after another. It
--- is here for the claim alone: no code has it any more. Its TABLE is the test of the table that it shows. Assumes nothing.
-use Prim.Native.Nat.{ℕ, zero, suc, _+_, _-_, _*_}
+-- is here for the claim alone: no code has it any more. Its TABLE is the test of the table that it shows. Closing (02, CR 9), which came after it, is what that
+-- layout would do: later rows move down in each array. Assumes nothing.
+use Prim.Native.Nat.{ℕ, zero, suc, _+_, _-_, _*_, max}
 use mathlib.Core.Path.{_≡_}
 use mathlib.Core.Bool.{Bool, true, false, cond, _&&_}
 use mathlib.Core.Option.{Option, none, some}
-use mathlib.Core.List.{List, [], _∷_}
-use lib.ListN.{length, getD, set}
+use mathlib.Core.List.{List, [], _∷_, _++_}
+use lib.ListN.{length, getD, set, take, drop}
 use lib.Dec.{leb, ltb}
 use Rattle.model.specs.declared.BatchItem.{BatchItem}
 use Rattle.model.specs.declared.Pair.{Pair}
@@ -15,15 +16,16 @@ use Rattle.model.specs.Messages.{Message, readMessage}
 use Rattle.model.specs.Tsig.{Signature, unsigned, misplaced, wellPlaced, signature}
 use Rattle.model.specs.Pairs.{issued}
 use Rattle.model.specs.Tables.{Row, Table, noPair, isNone, suffixOk, termOk, tableRules}
-use Rattle.model.specs.Checks.{check, checkKnown}
+use Rattle.model.specs.Checks.{check, checkSome, checkKnown}
 use Rattle.model.specs.Judging.{Holder, nobody, holder}
-use Rattle.model.specs.Calls.{DONE, TABLE, TIME, NAME, TERM, TWIN, FULL, Outcome, refusal, done, timeFits, gate, freshPair, sizeOk, Call, issue, revoke, look, message, timeOf, stepOf}
-use Rattle.model.specs.Runs.{Operation, enrol, call}
+use Rattle.model.specs.Calls.{DONE, TABLE, TIME, NOPAIR, SPENT, NAME, TERM, TWIN, FULL, Outcome, refusal, done, timeFits, gate, freshPair, sizeOk, Call, issue, revoke, look, message, timeOf, stepOf}
+use Rattle.model.specs.Runs.{Operation, enrol, close, call}
 use Rattle.model.specs.Batches.{BATCH, batchOk, itemCall}
 use Rattle.layouts.specs.Runs.{Act, new, on, batch, Ended, alone}
 
 pub record Array : Type 0 where
   pub clock : ℕ
+  pub floor : ℕ
   pub count : ℕ
   pub suffixes : List ℕ
   pub lengths : List ℕ
@@ -50,7 +52,7 @@ rowsIn a zero i = []
 rowsIn a (suc n) i = rowIn a i ∷ rowsIn a n (suc i)
 
 unfoldable pub viewOf : Array → Table
-viewOf a = record { clock = a .clock; rows = rowsIn a (a .count) 0 }
+viewOf a = record { clock = a .clock; floor = a .floor; rows = rowsIn a (a .count) 0 }
 
 -- ── Its calls ───────────────────────────────────────────────────────────────────────────────────────────────────────
 
@@ -62,22 +64,38 @@ searched a name (suc n) i = elim (sameName (suffixIn a i) name) [ true ↦ some 
 unfoldable pub rowOf : Array → List ℕ → Option ℕ
 rowOf a name = searched a name (a .count) 0
 
--- Another clock; another pair in row i; one row more.
+-- Another clock; another pair in row i; one row more; one row less.
 unfoldable pub putClock : Array → Option ℕ → Array
 putClock a none = a
-putClock a (some time) = record { clock = time; count = a .count; suffixes = a .suffixes; lengths = a .lengths; pairs = a .pairs }
+putClock a (some time) = record { clock = time; floor = a .floor; count = a .count; suffixes = a .suffixes; lengths = a .lengths; pairs = a .pairs }
 
 unfoldable pub putPair : Array → ℕ → Pair → Array
-putPair a i p = record { clock = a .clock; count = a .count; suffixes = a .suffixes; lengths = a .lengths; pairs = set (a .pairs) i p }
+putPair a i p = record { clock = a .clock; floor = a .floor; count = a .count; suffixes = a .suffixes; lengths = a .lengths; pairs = set (a .pairs) i p }
 
 unfoldable pub putRow : Array → List ℕ → Pair → Array
 putRow a suffix p =
     record {
       clock = a .clock;
+      floor = a .floor;
       count = a .count + 1;
       suffixes = overlay suffix (a .count * 128) (a .suffixes);
       lengths = set (a .lengths) (a .count) (length suffix);
       pairs = set (a .pairs) (a .count) p;
+    }
+
+-- What lies n further on moves down to the place i, with all behind it; the last n stay too.
+unfoldable pub closeUp : {A : Type 0} → ℕ → ℕ → List A → List A
+closeUp i n xs = take i xs ++ (drop (i + n) xs ++ drop (length xs - n) xs)
+
+unfoldable pub putOut : Array → ℕ → Array
+putOut a i =
+    record {
+      clock = a .clock;
+      floor = max (a .floor) (getD (a .pairs) i noPair .«next_serial»);
+      count = a .count - 1;
+      suffixes = closeUp (i * 128) 128 (a .suffixes);
+      lengths = closeUp i 1 (a .lengths);
+      pairs = closeUp i 1 (a .pairs);
     }
 
 -- The row that a call belongs to.
@@ -124,19 +142,28 @@ enrolledIn a suffix lifetime fresh algorithm =
     (checkKnown (refusedIn a) TERM (algorithmNumbered algorithm) λ g.
     check (refusedIn a) TWIN (isNone (rowOf a suffix))
     (check (refusedIn a) FULL (ltb (a .count) 64)
-    (putRow a suffix (issued (freshPair 1 lifetime fresh) (a .clock) g), done (a .count + 1) 1))))
+    (check (refusedIn a) SPENT (ltb (a .floor) 0x1_0000_0000)
+    (putRow a suffix (issued (freshPair (a .floor) lifetime fresh) (a .clock) g), done (a .count + 1) (a .floor))))))
 
 abbrev pub enrolIn : Array → ℕ → List ℕ → ℕ → ℕ → ℕ → Option ℕ → Array × Outcome
 enrolIn a time suffix lifetime fresh algorithm (some n) = refusedIn a n
 enrolIn a time suffix lifetime fresh algorithm none = enrolledIn (putClock a (some time)) suffix lifetime fresh algorithm
 
+unfoldable pub closedIn : Array → ℕ → Array × Outcome
+closedIn a number = checkSome (refusedIn a) NOPAIR (numberIn a number) λ i. (putOut a i, done 0 0)
+
+abbrev pub closeIn : Array → ℕ → ℕ → Option ℕ → Array × Outcome
+closeIn a time number (some n) = refusedIn a n
+closeIn a time number none = closedIn (putClock a (some time)) number
+
 unfoldable pub newIn : Array → ℕ → Array × Outcome
 newIn a time =
     check (refusedIn a) TIME (timeFits time)
-    (record { clock = time; count = 0; suffixes = a .suffixes; lengths = a .lengths; pairs = a .pairs }, done 0 0)
+    (record { clock = time; floor = 1; count = 0; suffixes = a .suffixes; lengths = a .lengths; pairs = a .pairs }, done 0 0)
 
 unfoldable pub operatedIn : Array → Operation → Array × Outcome
 operatedIn a (enrol time suffix lifetime fresh algorithm) = enrolIn a time suffix lifetime fresh algorithm (gate (viewOf a) (some time))
+operatedIn a (close time number) = closeIn a time number (gate (viewOf a) (some time))
 operatedIn a (call c) = calledIn a c (gate (viewOf a) (timeOf c))
 
 -- A batch: TABLE, BATCH, and its items in turn, each lent the room that is left.

@@ -1,5 +1,5 @@
 -- 02, CR 11: "Prove every reply, number and listing equal to the old layout's for any run, .. from tables that list alike. TABLE now also covers the order and
--- the map." Closing and loading join with their requests. The proof is `claim` of proofs/Claim. Assumes nothing.
+-- the map." Closing (02, CR 9) is among the acts; loading joins with its request. The proof is `claim` of proofs/Claim. Assumes nothing.
 use Prim.Native.Nat.{ℕ, suc, _<_}
 use mathlib.Core.Bool.{Bool, false}
 use mathlib.Core.Option.{Option}
@@ -11,8 +11,8 @@ use Rattle.model.specs.declared.BatchItem.{BatchItem}
 use Rattle.model.specs.Octets.{put}
 use Rattle.model.specs.Tables.{Table}
 use Rattle.model.specs.Judging.{Given}
-use Rattle.model.specs.Calls.{TABLE, Outcome, unchanged, issue, revoke, look, message, enrolOn, issueOn, revokeOn, lookOn, messageOn}
-use Rattle.model.specs.Runs.{Operation, enrol, call, operated}
+use Rattle.model.specs.Calls.{TABLE, Outcome, unchanged, issue, revoke, look, message, enrolOn, issueOn, revokeOn, lookOn, messageOn, closeOn}
+use Rattle.model.specs.Runs.{Operation, enrol, close, call, operated}
 use Rattle.model.specs.Batches.{refusedWhole, batchOn, repliesOf}
 use Rattle.model.specs.Listing.{listing}
 use Rattle.ordering.specs.declared.Ordering.the-variants.{Less}
@@ -56,6 +56,10 @@ pub record Contracts : Type 1 where
       (time : ℕ) (suffix : List ℕ) (lifetime fresh algorithm : ℕ) (w s w′ s′ : List ℕ) (a : Answer)
       → Served (λ t. enrolOn t time suffix lifetime fresh algorithm) w s w′ s′ a
       → Does shownIn (w, s) (on (enrol time suffix lifetime fresh algorithm)) (w′, s′) (alone (record { answer = a; reply = [] }))
+  pub closes :
+      (time pair : ℕ) (w s w′ s′ : List ℕ) (a : Answer)
+      → Served (λ t. closeOn t time pair) w s w′ s′ a
+      → Does shownIn (w, s) (on (close time pair)) (w′, s′) (alone (record { answer = a; reply = [] }))
   pub issues :
       (time pair algorithm : ℕ) (w s w′ s′ : List ℕ) (a : Answer)
       → Served (λ t. issueOn t time pair algorithm) w s w′ s′ a

@@ -8,8 +8,8 @@ use lib.ListN.{length, take, getD}
 use lib.Seq.{take-suc}
 use Rattle.model.specs.declared.Pair.{Pair}
 use Rattle.model.specs.Tables.{Row, Table, noRow, rowAt, suffixAt, pairAt, tableRules}
-use Rattle.store.specs.Layout.{countOf, layoutRule, tableOf}
-use Rattle.store.proofs.Laid.{laid}
+use Rattle.store.specs.Layout.{countOf, floorOf, laidTable, layoutRule, tableOf}
+use Rattle.store.proofs.Laid.{laid, shown}
 use Rattle.outcomes.proofs.Laws.{rules-layout, shown-words}
 use Rattle.model.specs.Listing.{pairLine, keyLines, rowLines, rowsLines}
 
@@ -46,3 +46,7 @@ module _ (w s : List ℕ) {b : Bool} (is : b ≡ tableRules (tableOf w s)) (kept
 
   pub few : countOf w ≤ 64
   few = laid w s layout .few
+
+  pub shown-floor : tableOf w s .floor ≡ floorOf w
+  unfolding laidTable
+  shown-floor = ap (λ (t : Table). t .floor) (shown w s layout)

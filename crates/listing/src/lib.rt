@@ -17,12 +17,13 @@ pub enum Listed {
     Broken,
 }
 
-pub fn clock_line(buf: &mut [u8], clock: u64) -> usize
-    requires { ⌜ 27 ≤ length (now buf) ⌝ }
-    ensures { λ r. ⌜ (r ≤ 27) × Wrote (clockLine clock) 0 (now (buf .entry)) (now (buf .exit)) r ⌝ }
+pub fn clock_line(buf: &mut [u8], clock: u64, floor: u64) -> usize
+    requires { ⌜ 48 ≤ length (now buf) ⌝ }
+    ensures { λ r. ⌜ (r ≤ 48) × Wrote (clockLine clock floor) 0 (now (buf .entry)) (now (buf .exit)) r ⌝ }
 {
     let next = octets::all_into(buf, 0, b"clock");
     let next = text::number_field(buf, next, 9, clock);
+    let next = text::number_field(buf, next, 9, floor);
     octets::u8_into(buf, next, 10)
 }
 
@@ -83,7 +84,7 @@ pub fn row_lines(buf: &mut [u8], at: usize, suffix: &[u8], p: Pair) -> usize
     key_lines(buf, next, keys)
 }
 
-// Lists the table at the front of the buffer. One that keeps the rules has at most 64 pairs: 27 + 64 * 541 octets.
+// Lists the table at the front of the buffer. One that keeps the rules has at most 64 pairs: 48 + 64 * 541 octets.
 pub fn list(words: &[u64], suffixes: &[u8], buf: &mut [u8]) -> Listed
     requires { ⌜ 40000 ≤ length (now buf) ⌝ }
     ensures { λ r. ⌜ Lists (tableOf (now (words .entry)) (now (suffixes .entry))) (now (buf .entry)) (now (buf .exit)) r ⌝ }
@@ -91,7 +92,7 @@ pub fn list(words: &[u64], suffixes: &[u8], buf: &mut [u8]) -> Listed
     if !ruling::rules_ok(words, suffixes) {
         return Listed::Broken;
     }
-    let mut next = clock_line(buf, words[0]);
+    let mut next = clock_line(buf, words[0], words[2]);
     let n = words[1] as usize;
     let mut i: usize = 0;
     while i < n {

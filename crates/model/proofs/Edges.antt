@@ -29,7 +29,7 @@ row suffix lifetime fresh next keys =
     record { suffix = suffix; pair = record { lifetime = lifetime; fresh = fresh; «next_serial» = next; keys = keys } }
 
 abbrev pub tableOf : ℕ → List Row → Table
-tableOf clock rows = record { clock = clock; rows = rows }
+tableOf clock rows = record { clock = clock; floor = 1; rows = rows }
 
 -- a.example. alone, with L 600 and P 400: the clock, the next serial and the keys; and the day's table just after enrolment.
 abbrev pub one : ℕ → ℕ → Keys → Table
@@ -126,7 +126,7 @@ unfolding after
 new-tables = (refl, refl, refl)
 
 -- 64 pairs, or more, or fewer: suffixes of one label of one octet.
-abbrev rowsOf : ℕ → List Row
+abbrev pub rowsOf : ℕ → List Row
 rowsOf zero = []
 rowsOf (suc n) = row (1 ∷ n ∷ 0 ∷ []) 600 400 1 Empty ∷ rowsOf n
 

@@ -14,17 +14,16 @@ use Rattle.model.specs.Names.{keyName, algorithmName}
 use Rattle.model.specs.Tables.{Table, pairAt}
 use Rattle.model.specs.Replies.{recordOctets, tkeyData}
 use Rattle.model.specs.Calls.{emptyTable, issue, revoke}
-use Rattle.model.specs.Runs.{Operation, call, operated}
-use Rattle.model.specs.Inquiries.{tested, unfound, foundIn, pairNamed, pairSuffixed, pairOfKey, Spelt, unspelt, wasIssued, speltIn, keyNameIn, keyNameOf, unshown, shownIn, pairShown, adoptedSerial, waitingSerial, isAmong, unless, movesOf, Asks, unaskedAt, unasked, numberNamed, asksBy, asksOf}
+use Rattle.model.specs.Runs.{Operation, enrol, call, operated}
+use Rattle.model.specs.Inquiries.{tested, unfound, foundIn, pairNamed, pairSuffixed, pairOfKey, Spelt, unspelt, belowNext, speltIn, keyNameIn, keyNameOf, unshown, shownIn, pairShown, adoptedSerial, waitingSerial, isAmong, unless, movesOf, Asks, unaskedAt, unasked, numberNamed, asksBy, asksOf}
 use Rattle.model.proofs.Requests.{suffix, otherSuffix, headerOf, header, question, rootQuery, ordinary, old, keyRecord, renewalOf, renewalBy, tkeyBy, adoptionBy}
 use Rattle.model.proofs.Running.{after}
 use Rattle.model.proofs.Day.{opening, at, key, first, twice}
 use Rattle.model.proofs.Edges.{row, tableOf}
-use Rattle.model.proofs.Moving.{moved}
 
 -- Every definition of inquiries opened.
 unfoldable opened : ℕ → ℕ
-unfolding after tested unfound foundIn pairNamed pairSuffixed pairOfKey unspelt wasIssued speltIn keyNameIn keyNameOf unshown shownIn pairShown adoptedSerial waitingSerial isAmong unless movesOf unaskedAt unasked numberNamed asksBy asksOf
+unfolding after tested unfound foundIn pairNamed pairSuffixed pairOfKey unspelt belowNext speltIn keyNameIn keyNameOf unshown shownIn pairShown adoptedSerial waitingSerial isAmong unless movesOf unaskedAt unasked numberNamed asksBy asksOf
 opened n = n
 
 -- ── Of a table ──────────────────────────────────────────────────────────────────────────────────────────────────────
@@ -105,8 +104,10 @@ pub key-names :
     × (keyNameOf table 0 0 0 ≡ spelt 9 [])
     × (keyNameOf table 3 1 512 ≡ spelt 9 [])
     × (keyNameOf broken 3 0 0 ≡ spelt 1 [])
+    -- a pair that was enrolled at the floor 5: no key of it had the serial 3, and it has a name all the same
+    × (keyNameOf (operated (record { clock = 1000; floor = 5; rows = [] }) (enrol 1000 suffix 600 400 256) .table) 1 3 512 ≡ spelt 0 (keyName 3 suffix))
 unfolding opened
-key-names = (refl, refl, refl, refl, refl, refl, refl, refl, refl, refl, refl)
+key-names = (refl, refl, refl, refl, refl, refl, refl, refl, refl, refl, refl, refl)
 
 abbrev showing : ℕ → ℕ → ℕ → ℕ → Keys → ShownPair
 showing n lifetime fresh next keys = record { number = n; pair = record { lifetime = lifetime; fresh = fresh; «next_serial» = next; keys = keys } }
@@ -125,6 +126,9 @@ pairs-shown = (refl, refl, refl, refl, refl)
 -- The keys of pair 1 after operations on the day's table; and what one more operation does to them.
 abbrev keysAfter : List Operation → Keys
 keysAfter os = pairAt (after (after (emptyTable 1000) opening) os) 0 .keys
+
+abbrev moved : ℕ → ℕ → ℕ → ℕ → Moves
+moved made adopted ended dropped = record { made = made; adopted = adopted; ended = ended; dropped = dropped }
 
 abbrev movesBy : List Operation → Operation → Moves
 movesBy before o = movesOf (keysAfter before) (pairAt (operated (after (after (emptyTable 1000) opening) before) o .table) 0 .keys)
@@ -183,11 +187,13 @@ pub requests :
     × (asksOf (requestOf 4097 2 keyRecord) ≡ asks 4097 384 1000 1600 (7 ∷ 8 ∷ []) (some (2 ∷ 0 ∷ 3 ∷ 1 ∷ [])))
     × (asksOf (requestOf 4099 1 []) ≡ asks 4099 384 1000 1600 (7 ∷ 8 ∷ []) none)
     × (asksOf (requestOf 4097 3 (keyRecord ++ otherKey)) ≡ asks 4097 384 1000 1600 (7 ∷ 8 ∷ []) none)
+    -- a KEY with no data is one
+    × (asksOf (requestOf 4099 2 (recordOctets (0 ∷ []) 25 255 0 [])) ≡ asks 4099 384 1000 1600 (7 ∷ 8 ∷ []) (some []))
     -- a TKEY of mode 0 reads as asking for nothing; a mode that is unknown as itself
     × (asksOf (requestOf 0 1 []) ≡ asks 0 384 1000 1600 (7 ∷ 8 ∷ []) none)
     × (asksOf (requestOf 77 1 []) ≡ asks 77 384 1000 1600 (7 ∷ 8 ∷ []) none)
 unfolding opened
-requests = (refl, refl, refl, refl, refl, refl, refl, refl, refl)
+requests = (refl, refl, refl, refl, refl, refl, refl, refl, refl, refl)
 
 -- Nothing is asked: an ordinary query, a query with a TKEY in it, a TKEY request without TKEY, with two, with one that is ill formed (it names no old key).
 pub nothing-asked :

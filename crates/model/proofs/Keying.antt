@@ -137,6 +137,7 @@ abbrev spent : Table
 spent =
     record {
       clock = 1000;
+      floor = 1;
       rows = record { suffix = suffix; pair = record { lifetime = 600; fresh = 400; «next_serial» = 0x1_0000_0000; keys = Adopted first } } ∷ [];
     }
 

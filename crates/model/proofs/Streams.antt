@@ -100,17 +100,17 @@ later-forwarded = refl
 
 -- ── Refusals ────────────────────────────────────────────────────────────────────────────────────────────────────────
 
-pub no-size : receivedRequest [] 0 ≡ unassembled SIZE
+abbrev late : Stamp
+late = record { algorithm = []; signed = 2 ^ 48; fudge = 0; mac = []; originalId = 0; error = 0; other = [] }
+
+pub no-size : (receivedRequest [] 0 ≡ unassembled SIZE) × (digestedLater (replicate 65 0) [] [] late 0 ≡ unassembled SIZE)
 unfolding through
-no-size = refl
+no-size = (refl, refl)
 
 -- no TSIG to digest under; and, to sign a later message, one that stands there already
 pub bare-received : receivedLater (replicate 65 0) [] query 0 ≡ unassembled FORMAT
 unfolding through
 bare-received = refl
-
-abbrev late : Stamp
-late = record { algorithm = []; signed = 2 ^ 48; fudge = 0; mac = []; originalId = 0; error = 0; other = [] }
 
 pub signed-already : digestedLater (replicate 65 0) [] sent late 0 ≡ unassembled FORMAT
 unfolding through
@@ -124,9 +124,9 @@ pub long-mac : receivedReply (replicate 65 0) sent 0 ≡ unassembled MACSIZE
 unfolding through
 long-mac = refl
 
-pub long-prior : receivedLater (replicate 65 0) [] sent 0 ≡ unassembled MACSIZE
+pub long-prior : (receivedLater (replicate 65 0) [] sent 0 ≡ unassembled MACSIZE) × (digestedLater (replicate 65 0) [] later laterStamp 0 ≡ unassembled MACSIZE)
 unfolding through
-long-prior = refl
+long-prior = (refl, refl)
 
 pub request-fits : receivedRequest sent (length digest) ≡ record { number = 0; octets = digest }
 unfolding through
@@ -140,6 +140,6 @@ pub later-fits : receivedLater replyMac between laterSent (length underLater) �
 unfolding through
 later-fits = refl
 
-pub later-short : receivedLater replyMac between laterSent 121 ≡ unassembled ROOM
+pub later-short : (receivedLater replyMac between laterSent 121 ≡ unassembled ROOM) × (digestedLater replyMac between later laterStamp 121 ≡ unassembled ROOM)
 unfolding through
-later-short = refl
+later-short = (refl, refl)

@@ -57,9 +57,10 @@ pub record Spelt : Type 0 where
 unfoldable pub unspelt : ℕ → Spelt
 unspelt n = record { number = n; octets = [] }
 
--- A serial was issued in a pair: it is 1 or more, and below the next one.
-unfoldable pub wasIssued : Pair → ℕ → Bool
-wasIssued p serial = leb 1 serial && ltb serial (p .«next_serial»)
+-- A serial that the pair does not give any more: it is 1 or more, and below the next one. (A pair starts at the floor of its enrolment, which the table does not
+-- keep: below it no key of the pair was ever made.)
+unfoldable pub belowNext : Pair → ℕ → Bool
+belowNext p serial = leb 1 serial && ltb serial (p .«next_serial»)
 
 -- ROOM, then the octets.
 unfoldable pub speltIn : ℕ → List ℕ → Spelt
@@ -67,7 +68,7 @@ speltIn room octets = check unspelt ROOM (leb (length octets) room) (record { nu
 
 -- The name of the key with this serial, there or gone, in the pair of row i: NOKEY, ROOM.
 unfoldable pub keyNameIn : Table → ℕ → ℕ → ℕ → Spelt
-keyNameIn t serial room i = check unspelt NOKEY (wasIssued (pairAt t i) serial) (speltIn room (keyName serial (suffixAt t i)))
+keyNameIn t serial room i = check unspelt NOKEY (belowNext (pairAt t i) serial) (speltIn room (keyName serial (suffixAt t i)))
 
 -- The same in the pair of this number: TABLE, NOPAIR, NOKEY, ROOM.
 unfoldable pub keyNameOf : Table → ℕ → ℕ → ℕ → Spelt

@@ -5,7 +5,7 @@ use mathlib.Core.Path.{_≡_, refl, sym, ap, _∙_}
 use mathlib.Core.Option.{none, some}
 use mathlib.Core.List.{List, [], _∷_}
 use native.Mathlib.Omega.{arith}
-use lib.Dec.{leb, eqb}
+use lib.Dec.{leb, ltb, eqb}
 use lib.ListN.{length, length-map}
 use borrow.Author.Tests.{lt-ltb, le-ltb, leb-true, eq-eqb, ne-eqb}
 use Rattle.model.specs.declared.Algorithm.{Algorithm}
@@ -17,21 +17,23 @@ use Rattle.model.specs.Names.{wireName, algorithmNumbered}
 use Rattle.model.specs.Pairs.{issued, revoked}
 use Rattle.model.specs.Tables.{Table, namesOf, pairAt, withClock, withPair, suffixOk, termOk, serialRule, keysRule, pairRule}
 use Rattle.model.specs.Judging.{adoptedOf}
-use Rattle.model.specs.Calls.{DONE, TABLE, TIME, NOPAIR, NOKEY, SPENT, NAME, TERM, TWIN, FULL, Result, refusalAt, refusal, done, unchanged, timeFits, gate, newTable, withRow, firstSerial, freshPair, enrolled, enrolPassed, enrolOn, numberOwner, issue, revoke, served}
+use Rattle.model.specs.Calls.{DONE, TABLE, TIME, NOPAIR, NOKEY, SPENT, NAME, TERM, TWIN, FULL, Result, refusalAt, refusal, done, unchanged, timeFits, gate, newTable, withRow, firstSerial, freshPair, enrolled, enrolPassed, enrolOn, withoutRow, closed, closePassed, closeOn, numberOwner, issue, revoke, served}
 use Rattle.model.proofs.Tests.{each, left, right, and-false}
-use Rattle.model.proofs.CallLaws.{number-none, number-some, issue-nopair, issue-spent, issue-term, issue-done, revoke-nopair, revoke-empty, revoke-expired, revoke-done, enrol-name, enrol-term, enrol-algorithm, enrol-twin, enrol-full, enrol-done}
+use Rattle.model.proofs.CallLaws.{number-none, number-some, issue-nopair, issue-spent, issue-term, issue-done, revoke-nopair, revoke-empty, revoke-expired, revoke-done, enrol-name, enrol-term, enrol-algorithm, enrol-twin, enrol-full, enrol-spent, enrol-done}
 use Rattle.pairs.specs.declared.Held.{Held}
 use Rattle.pairs.specs.declared.Held.the-variants.{Nothing, Is}
 use Rattle.pairs.specs.Held.{keyOf}
 use Rattle.pairs.specs.Fits.{Fits, issuedIn}
 use Rattle.pairs.proofs.Fit.{issued-fits}
 use Rattle.pairs.proofs.Fit.{rule-fits}
-use Rattle.store.specs.Layout.{countOf, layoutRule, tableOf}
+use Rattle.store.proofs.Laid.{shown as shown-laid}
+use Rattle.store.specs.Layout.{floorOf, countOf, laidTable, layoutRule, tableOf}
 use Rattle.store.specs.Stored.{Cleared}
 use Rattle.searching.specs.declared.Found.{Found}
 use Rattle.searching.specs.declared.Found.the-variants.{Row, Missing}
 use Rattle.searching.specs.Search.{foundRow, Sought}
 use Rattle.inserting.specs.Insert.{Ready, Inserted}
+use Rattle.removing.specs.Remove.{Removed}
 use Rattle.outcomes.specs.Gate.{refusalOf, Open}
 use Rattle.outcomes.specs.Ends.{Rest, Settled}
 use Rattle.outcomes.proofs.Laws.{shown-count, some-refusal, rest-refused, rest-done}
@@ -83,16 +85,25 @@ module _ (t : Table) (time n : ℕ) (says : gate t (some time) ≡ refusalOf n) 
   unfolding enrolOn
   enrol-passes e = ap (enrolPassed t time suffix lifetime fresh algorithm) (says ∙ ap refusalOf e)
 
-pub fresh-fits : (lifetime fresh time : ℕ) → termOk lifetime fresh ≡ true → timeFits time ≡ true → Fits (freshPair 1 lifetime fresh) time
-unfolding pairRule serialRule keysRule freshPair
-fresh-fits lifetime fresh time e h = rule-fits 0 time (freshPair 1 lifetime fresh) (rw e refl) h
+pub fresh-fits : (floor lifetime fresh time : ℕ) → serialRule floor ≡ true → termOk lifetime fresh ≡ true → timeFits time ≡ true → Fits (freshPair floor lifetime fresh) time
+unfolding pairRule keysRule freshPair
+fresh-fits floor lifetime fresh time n e h = rule-fits 0 time (freshPair floor lifetime fresh) (rw (e, n) refl) h
 
-pub first-made : (lifetime fresh time : ℕ) (g : Algorithm) {p r : Pair} → p ≡ freshPair 1 lifetime fresh → termOk lifetime fresh ≡ true → timeFits time ≡ true → r ≡ issuedIn p time g → r ≡ issued (freshPair 1 lifetime fresh) time g
-first-made lifetime fresh time g {p} is e h f = f ∙ issued-fits p time g (rw is (fresh-fits lifetime fresh time e h)) ∙ ap (λ (p : Pair). issued p time g) is
+pub first-made : (floor lifetime fresh time : ℕ) (g : Algorithm) {p r : Pair} → p ≡ freshPair floor lifetime fresh → serialRule floor ≡ true → termOk lifetime fresh ≡ true → timeFits time ≡ true → r ≡ issuedIn p time g → r ≡ issued (freshPair floor lifetime fresh) time g
+first-made floor lifetime fresh time g {p} is n e h f = f ∙ issued-fits p time g (rw is (fresh-fits floor lifetime fresh time n e h)) ∙ ap (λ (p : Pair). issued p time g) is
 
-pub row-added : (w s : List ℕ) (ok : layoutRule w s ≡ true) {suffix : List ℕ} {p : Pair} {w′ s′ : List ℕ} → Inserted suffix p w s w′ s′ → {a : Answer} → a ≡ done (countOf w + 1) 1 .answer → RowAdded suffix p w s w′ s′ a
+-- The floor that the words show, and its rule.
+pub shown-floor : (w s : List ℕ) → layoutRule w s ≡ true → firstSerial (tableOf w s) ≡ floorOf w
+unfolding firstSerial laidTable
+shown-floor w s ok = ap (λ (t : Table). t .floor) (shown-laid w s ok)
+
+pub floor-rule : (w s : List ℕ) (time : ℕ) → Open w s time → serialRule (floorOf w) ≡ true
+unfolding firstSerial
+floor-rule w s time o = ap serialRule (sym (shown-floor w s (o .layout))) ∙ o .floor
+
+pub row-added : (w s : List ℕ) (ok : layoutRule w s ≡ true) {suffix : List ℕ} {p : Pair} {w′ s′ : List ℕ} → Inserted suffix p w s w′ s′ → {a : Answer} → a ≡ done (countOf w + 1) (floorOf w) .answer → RowAdded suffix p w s w′ s′ a
 unfolding done
-row-added w s ok i e = record { says = rw (i .table, e, shown-count w s ok) refl }
+row-added w s ok i e = record { says = rw (i .table, e, shown-count w s ok, shown-floor w s ok) refl }
 
 module _ (s : List ℕ) (e : suffixOk s ≡ true) where
   abbrev sizes : List Bool
@@ -136,14 +147,25 @@ module _ (w s suffix : List ℕ) (lifetime fresh n : ℕ) (a : Answer) where
               rest-refused enrols w s 15 (omega arith) e
               (enrol-full (tableOf w s) suffix lifetime fresh n named term g known (found .says ∙ ap foundRow missing) (le-ltb (length (tableOf w s .rows)) 64 (omega (arith, shown-count w s (o .layout)))))
 
-          pub known-done : countOf w < 64 → {w′ s′ : List ℕ} {p : Pair} → p ≡ issued (freshPair 1 lifetime fresh) time g → RowAdded suffix p w s w′ s′ a → Rest enrols w s w′ s′ a
-          unfolding firstSerial
-          known-done h {w′} {s′} {p} is added =
+          roomy : countOf w < 64 → ltb (length (tableOf w s .rows)) 64 ≡ true
+          roomy h = lt-ltb (length (tableOf w s .rows)) 64 (omega (arith, shown-count w s (o .layout)))
+
+          pub known-spent : countOf w < 64 → 0x1_0000_0000 ≤ floorOf w → a ≡ refusal 11 .answer → Rest enrols w s w s a
+          unfolding SPENT
+          known-spent h q e =
+              rest-refused enrols w s 11 (omega arith) e
+              (enrol-spent (tableOf w s) suffix lifetime fresh n named term g known (found .says ∙ ap foundRow missing) (roomy h)
+              (ap (λ (x : ℕ). ltb x 0x1_0000_0000) (shown-floor w s (o .layout)) ∙ le-ltb (floorOf w) 0x1_0000_0000 q))
+
+          pub known-done : countOf w < 64 → floorOf w < 0x1_0000_0000 → {w′ s′ : List ℕ} {p : Pair} → p ≡ issued (freshPair (floorOf w) lifetime fresh) time g → RowAdded suffix p w s w′ s′ a → Rest enrols w s w′ s′ a
+          known-done h q {w′} {s′} {p} is added =
               let t = tableOf w s in
+              let f = shown-floor w s (o .layout) in
               rest-done enrols w s w′ s′ _ _ (added .says)
-              (enrol-done t suffix lifetime fresh n named term g known (found .says ∙ ap foundRow missing) (lt-ltb (length (t .rows)) 64 (omega (arith, shown-count w s (o .layout))))
-              ∙ ap (λ (x : ℕ). record { table = withRow t suffix (issued (freshPair 1 lifetime fresh) x g); outcome = done (length (t .rows) + 1) 1 }) (o .clock)
-              ∙ ap (λ (q : Pair). record { table = withRow t suffix q; outcome = done (length (t .rows) + 1) 1 }) (sym is))
+              (enrol-done t suffix lifetime fresh n named term g known (found .says ∙ ap foundRow missing) (roomy h)
+              (ap (λ (x : ℕ). ltb x 0x1_0000_0000) f ∙ lt-ltb (floorOf w) 0x1_0000_0000 q)
+              ∙ ap (λ (x : ℕ). record { table = withRow t suffix (issued (freshPair (firstSerial t) lifetime fresh) x g); outcome = done (length (t .rows) + 1) (firstSerial t) }) (o .clock)
+              ∙ ap (λ (q : Pair). record { table = withRow t suffix q; outcome = done (length (t .rows) + 1) (firstSerial t) }) (ap (λ (x : ℕ). issued (freshPair x lifetime fresh) time g) f ∙ sym is))
 
 -- what the search tells an insertion
 pub ready : (w s suffix : List ℕ) (r : Found) → Sought w s suffix r → (place : ℕ) → r ≡ Missing place → layoutRule w s ≡ true → countOf w < 64 → suffixOk suffix ≡ true → Ready place suffix w s
@@ -232,3 +254,31 @@ module _ (w s : List ℕ) (time n : ℕ) (a : Answer) where
 -- a pair that keeps its rules has sums that fit
 pub row-fits : (w s : List ℕ) (time : ℕ) → Open w s time → (i : ℕ) → i < length (tableOf w s .rows) → {p : Pair} → p ≡ pairAt (tableOf w s) i → Fits p time
 row-fits w s time o i h e = rw e (rule-fits (o .tested) time (pairAt (tableOf w s) i) (o .rule i h) (o .fits))
+
+-- ── Closing ─────────────────────────────────────────────────────────────────────────────────────────────────────────
+
+-- By the first refusal.
+module _ (t : Table) (time n : ℕ) (says : gate t (some time) ≡ refusalOf n) (number : ℕ) where
+  pub close-refused : (n ≡ 0 → ⊥) → closeOn t time number ≡ unchanged t n
+  unfolding closeOn
+  close-refused z = ap (closePassed t time number) (says ∙ some-refusal n z)
+
+  pub close-passes : n ≡ 0 → closeOn t time number ≡ closed (withClock t time) number
+  unfolding closeOn
+  close-passes e = ap (closePassed t time number) (says ∙ ap refusalOf e)
+
+-- the row is one of the count's
+pub row-counted : (w s : List ℕ) → layoutRule w s ≡ true → {i : ℕ} → i < length (tableOf w s .rows) → i < countOf w
+row-counted w s ok h = omega (arith, shown-count w s ok)
+
+module _ (w s : List ℕ) (n : ℕ) (a : Answer) where
+  abbrev closes : Table → Result
+  closes t = closed t n
+
+  pub close-none : numberOwner (namesOf (tableOf w s)) n ≡ none → a ≡ refusal 9 .answer → Rest closes w s w s a
+  unfolding closed NOPAIR
+  close-none h e = rest-refused closes w s 9 (omega arith) e (rw h refl)
+
+  pub close-done : {i : ℕ} {w′ s′ : List ℕ} → numberOwner (namesOf (tableOf w s)) n ≡ some i → Removed i w s w′ s′ → a ≡ done 0 0 .answer → Rest closes w s w′ s′ a
+  unfolding closed done
+  close-done {i} {w′} {s′} own r e = rest-done closes w s w′ s′ {t = withoutRow (tableOf w s) i} 0 0 (rw (r .table, e) refl) (rw own refl)

@@ -9,7 +9,7 @@ use Rattle.model.specs.declared.Answer.{Answer}
 use Rattle.model.specs.declared.Pair.{Pair}
 use Rattle.model.specs.Tables.{Table}
 use Rattle.model.specs.Checks.{check}
-use Rattle.model.specs.Calls.{DONE, TABLE, Result, done, unchanged, newTable, withRow}
+use Rattle.model.specs.Calls.{DONE, TABLE, Result, done, unchanged, newTable, withRow, firstSerial}
 use Rattle.store.specs.Layout.{tableOf}
 use Rattle.outcomes.specs.Ends.{shown}
 
@@ -27,4 +27,4 @@ pub record Made (time : ℕ) (w s w′ : List ℕ) (a : Answer) : Type 0 where
 
 -- An enrolment that is done.
 pub record RowAdded (suffix : List ℕ) (p : Pair) (w s w′ s′ : List ℕ) (a : Answer) : Type 0 where
-  pub says : shown w′ s′ a ≡ record { table = withRow (tableOf w s) suffix p; outcome = done (length (tableOf w s .rows) + 1) 1 }
+  pub says : shown w′ s′ a ≡ record { table = withRow (tableOf w s) suffix p; outcome = done (length (tableOf w s .rows) + 1) (firstSerial (tableOf w s)) }

@@ -11,7 +11,7 @@ use borrow.Author.Tests.{lt-ltb, le-ltb, le-leb, lt-leb}
 use Rattle.model.specs.declared.Answer.{Answer}
 use Rattle.model.specs.declared.Pair.{Pair}
 use Rattle.model.specs.Octets.{part}
-use Rattle.model.specs.Tables.{Row, Table, rowAt, suffixAt, pairAt, withClock, pairRule, tableRules}
+use Rattle.model.specs.Tables.{Row, Table, rowAt, suffixAt, pairAt, withClock, serialRule, pairRule, tableRules}
 use Rattle.model.specs.Calls.{DONE, TABLE, TIME, CLOCK, Result, refusalAt, refusal, done, unchanged, timeFits, timeGoesOn, gate, clockAt, Call, timeOf, served, called}
 use Rattle.model.proofs.Tests.{differs}
 use Rattle.model.proofs.Rows.{tests, every-member, at-member}
@@ -139,6 +139,7 @@ module _ (w s : List ℕ) (time n : ℕ) (f : First w s time n) where
       layout = c .layout s (f .layout e);
       clock = ap (λ (t : Table). t .clock) its-table;
       fits = f .fits e;
+      floor = ap (λ (t : Table). serialRule (t .floor)) its-table ∙ tests (tableOf w s) (f .rules e) .1 .1 .1 .1 .1 .0;
       tested = tableOf w s .clock;
       rule = λ i h.
           let r = ap (λ (t : Table). t .rows) its-table in

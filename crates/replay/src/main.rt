@@ -315,6 +315,7 @@ fn run_all(
 fn main() {
     let mut words = [0u64; 1091];
     let mut suffixes = [0u8; 8192];
+    operator::new_table(&mut words[..], &suffixes[..], 0);
     let mut input = [0u8; 16384];
     let mut line = [0u8; 200001];
     let mut arena = [0u8; 100000];

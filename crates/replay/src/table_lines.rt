@@ -88,6 +88,7 @@ pub fn table_line(
             told(operator::issue(words, suffixes, x, y, z), b"", text)
         }
         TableCall::Revoke => told(operator::revoke(words, suffixes, x, y), b"", text),
+        TableCall::Close => told(operator::close(words, suffixes, x, y), b"", text),
         TableCall::Look => {
             let m = script::octets(a, 1, arena);
             told(looking::look(words, suffixes, m), b"", text)

@@ -11,6 +11,7 @@ pub enum TableCall {
     Enrol,
     Issue,
     Revoke,
+    Close,
     Look,
     Message,
     List,
@@ -323,6 +324,9 @@ fn read_table_line(word: &[u8], line: &[u8], arena: &mut [u8]) -> Command {
     }
     if words::is_word(word, b"revoke") {
         return table_call(TableCall::Revoke, line, b"nn", arena);
+    }
+    if words::is_word(word, b"close") {
+        return table_call(TableCall::Close, line, b"nn", arena);
     }
     if words::is_word(word, b"look") {
         return table_call(TableCall::Look, line, b"o", arena);

@@ -455,7 +455,7 @@ fn the_line_of_a_batch() {
     );
     let expected = format!(
         "0 0 0 0 1 1 - 0\n0 5\n0 0 0 -300 1 1 - 0\n0 27 17 0 0 0 {reply} 0\n\
-         3 0 0 0 0 0 - 0\n0 27 16 0 1 1 {reply} 0\n8 0 0 0 0 0 - 0\nclock\t1300\n"
+         3 0 0 0 0 0 - 0\n0 27 16 0 1 1 {reply} 0\n8 0 0 0 0 0 - 0\nclock\t1300\t1\n"
     );
     assert!(output(&script).starts_with(&expected));
 }
@@ -472,7 +472,7 @@ fn lines_of_batches_with_little_in_them() {
         items(65),
     );
     let short = "4 0 0 0 0 0 - 0\n";
-    let expected = format!("0 0\n0 0\n0 2\n{short}{short}17 0\n17 0\n17 0\n17 0\nclock\t5\n");
+    let expected = format!("0 0\n0 0\n0 2\n{short}{short}17 0\n17 0\n17 0\n17 0\nclock\t5\t1\n");
     assert_eq!(output(&script), expected);
 }
 
@@ -487,7 +487,7 @@ fn the_papers_example() {
     );
     let expected = "0 0 0 0 1 1 - 0\n0 4\n\
          0 17 0 0 0 0 1234800500010000000000000000f900ff 0\n\
-         8 0 0 0 0 0 - 0\n6 0 0 0 0 0 - 17\n3 0 0 0 0 0 - 0\n17 0\nclock\t1202\n";
+         8 0 0 0 0 0 - 0\n6 0 0 0 0 0 - 17\n3 0 0 0 0 0 - 0\n17 0\nclock\t1202\t1\n";
     assert!(output(&script).starts_with(expected));
 }
 
@@ -533,7 +533,7 @@ fn bad_lines_of_batches() {
     ];
     let script = bad.join("\n") + "\nlist";
     let expected: String = (1..=bad.len()).map(|n| format!("bad line {n}\n")).collect();
-    assert_eq!(output(&script), expected + "clock\t0\n");
+    assert_eq!(output(&script), expected + "clock\t0\t1\n");
     // One that does not read is not counted as an item.
     let many =
         "batch 0 -".to_string() + &" 5 good 0 0 0 0 bad 0 0".repeat(64) + " 5 good 0 0 0 0 bad 0 x";

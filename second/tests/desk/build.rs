@@ -263,7 +263,7 @@ pub fn key_record() -> Vec<u8> {
 
 /// 01's day just after enrolment.
 pub fn day() -> Table {
-    let mut table = Table::default();
+    let mut table = Table::empty(0);
     let done = enrol(&mut table, 1000, &name("a.example."), 600, 400, 256);
     assert_eq!(done, with_key(1, 1));
     table

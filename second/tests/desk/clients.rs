@@ -19,6 +19,7 @@ fn table_at(time: u64, serial: u64) -> Table {
     };
     Table {
         clock: inception,
+        floor: 1,
         pairs: vec![Pair {
             suffix: name("a.example."),
             lifetime: 600,

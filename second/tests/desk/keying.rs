@@ -504,6 +504,6 @@ fn the_long_line_of_a_message() {
     assert!(lines[5].starts_with("0 151 0 0 1 1 123481000001000200000001"));
     assert!(lines[5].contains(&record));
     assert!(lines[6].starts_with("0 19 16 0 1 1 12348109"));
-    assert_eq!(lines[7], "clock\t1200");
+    assert_eq!(lines[7], "clock\t1200\t1");
     assert_eq!(lines[10], "key\twaiting\t2\thmac-sha256\t1200\t1600\t1800");
 }

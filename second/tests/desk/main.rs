@@ -3,6 +3,7 @@
 mod batches;
 mod build;
 mod clients;
+mod closings;
 mod day;
 mod judging;
 mod keying;

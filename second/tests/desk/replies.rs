@@ -6,7 +6,7 @@ use crate::build::*;
 
 /// Suffix a.example. enrolled with capitals.
 fn capitals() -> Table {
-    let mut table = Table::default();
+    let mut table = Table::empty(0);
     enrol(&mut table, 1000, &name("A.Example."), 600, 400, 256).unwrap();
     table
 }
@@ -167,7 +167,7 @@ fn a_failed_renewal_echoes_no_key_record_and_keeps_its_key_data() {
 #[test]
 fn times_of_a_granted_renewal_are_modulo_2_32() {
     let start = (1 << 32) - 100;
-    let mut table = Table::default();
+    let mut table = Table::empty(0);
     enrol(&mut table, start, &name("a.example."), 600, 400, 256).unwrap();
     let renewal = Draft::renewal("1.a.example.").signed("1.a.example.", start);
     let (_, reply) = send(&mut table, start, &renewal);

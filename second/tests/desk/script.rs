@@ -18,11 +18,11 @@ const ENROL: &str = "enrol 1000 0161076578616d706c6500 600 400 256\n";
 
 #[test]
 fn the_day_lists_as_cr_7_says() {
-    let listing = "clock\t1000\n\
+    let listing = "clock\t1000\t1\n\
         pair\t0161076578616d706c6500\t2\t600\t400\n\
         key\tadopted\t1\thmac-sha256\t1000\t1400\t1600\n";
     let script = format!("list\nnew 5\nlist\n{ENROL}list\n");
-    let expected = format!("clock\t0\n0 0 0 0 0 0 - 0\nclock\t5\n0 0 0 0 1 1 - 0\n{listing}");
+    let expected = format!("clock\t0\t1\n0 0 0 0 0 0 - 0\nclock\t5\t1\n0 0 0 0 1 1 - 0\n{listing}");
     assert_eq!(output(script.as_bytes()), expected);
 }
 
@@ -40,7 +40,7 @@ fn waiting_keys_and_capitals_in_the_listing() {
     // Header 12, question 7, TKEY 13 + 10 + 13 + 16 + 2 + 26, KEY 8 + 10 + 6.
     assert!(lines[4].starts_with("0 123 0 0 2 1 123481000001000100000001"));
     let listing = [
-        "clock\t1200",
+        "clock\t1200\t1",
         "pair\t014100\t2\t600\t400",
         "key\tadopted\t1\thmac-sha512\t1000\t1200\t1600",
         "pair\t0161076578616d706c6500\t3\t600\t400",
@@ -125,7 +125,7 @@ fn bad_lines() {
         let expected = format!("bad line {}\n", index + 1);
         assert_eq!(String::from_utf8(out).unwrap(), expected);
     }
-    assert_eq!(*runner.table(), second::Table::default());
+    assert_eq!(*runner.table(), second::Table::empty(0));
 }
 
 const HOLD: &str = "hold 01310161076578616d706c6500 256 1000 1600\n";
@@ -254,7 +254,7 @@ fn bad_lines_of_the_resolver() {
 fn each_half_leaves_the_other_alone() {
     let script = format!("{ENROL}{HOLD}new 7\nkeys\nlist\n");
     let expected = "0 0 0 0 1 1 - 0\n0\n0 0 0 0 0 0 - 0\nresolver\t-\t-\tadopted\n\
-        key\tadopted\t01310161076578616d706c6500\thmac-sha256\t1000\t1600\nclock\t7\n";
+        key\tadopted\t01310161076578616d706c6500\thmac-sha256\t1000\t1600\nclock\t7\t1\n";
     assert_eq!(output(script.as_bytes()), expected);
 }
 
@@ -286,16 +286,19 @@ fn places() {
 fn a_bad_last_word_changes_nothing() {
     let script = format!("{ENROL}issue 2000 1 x\nmessage 3000 good - 9 0\nlist\n");
     let output = output(script.as_bytes());
-    assert!(output.starts_with("0 0 0 0 1 1 - 0\nbad line 2\nbad line 3\nclock\t1000\npair"));
+    assert!(output.starts_with("0 0 0 0 1 1 - 0\nbad line 2\nbad line 3\nclock\t1000\t1\npair"));
 }
 
 #[test]
 fn ends_of_input() {
     assert_eq!(output(b""), "");
     assert_eq!(output(b"\n"), "bad line 1\n");
-    assert_eq!(output(b"list"), "clock\t0\n");
-    assert_eq!(output(b"list\n"), "clock\t0\n");
-    assert_eq!(output(b"list\n\nlist"), "clock\t0\nbad line 2\nclock\t0\n");
+    assert_eq!(output(b"list"), "clock\t0\t1\n");
+    assert_eq!(output(b"list\n"), "clock\t0\t1\n");
+    assert_eq!(
+        output(b"list\n\nlist"),
+        "clock\t0\t1\nbad line 2\nclock\t0\t1\n"
+    );
 }
 
 #[test]
@@ -308,16 +311,16 @@ fn lines_of_200000_octets_and_one_more() {
     assert_eq!(output(&longest), good);
     assert_eq!(output(&new(199_997)), bad);
     let followed = |line: Vec<u8>| output(&[&line[..], b"\nlist"].concat());
-    assert_eq!(followed(longest), format!("{good}clock\t0\n"));
-    assert_eq!(followed(new(199_997)), format!("{bad}clock\t0\n"));
-    assert_eq!(followed(new(700_000)), format!("{bad}clock\t0\n"));
+    assert_eq!(followed(longest), format!("{good}clock\t0\t1\n"));
+    assert_eq!(followed(new(199_997)), format!("{bad}clock\t0\t1\n"));
+    assert_eq!(followed(new(700_000)), format!("{bad}clock\t0\t1\n"));
     // The Runner knows it too, however the line comes.
     let mut runner = Runner::new();
     let mut out = Vec::new();
     runner.line(&new(199_997), &mut out);
     runner.too_long(&mut out);
     runner.line(b"list", &mut out);
-    assert_eq!(out, b"bad line 1\nbad line 2\nclock\t0\n");
+    assert_eq!(out, b"bad line 1\nbad line 2\nclock\t0\t1\n");
 }
 
 #[test]

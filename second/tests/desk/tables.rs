@@ -45,6 +45,7 @@ fn table() -> Table {
     };
     Table {
         clock: CLOCK,
+        floor: 1,
         pairs: vec![
             pair("a.example.", Keys::None),
             pair("b.example.", Keys::Adopted(adopted())),
@@ -89,7 +90,7 @@ fn keeps_waiting(change: impl FnOnce(&mut Key)) -> bool {
 #[test]
 fn the_table_to_begin_with() {
     assert!(keeps(|_| ()));
-    assert!(keeps(|table| *table = Table::default()));
+    assert!(keeps(|table| *table = Table::empty(0)));
 }
 
 #[test]

@@ -15,7 +15,7 @@ use second::Algorithm;
 
 pub const CLOCK: usize = 0;
 pub const COUNT: usize = 1;
-pub const SPARE: usize = 2;
+pub const FLOOR: usize = 2;
 pub const MAP: usize = 3;
 
 /// The first word of a place, and words of it.
@@ -54,7 +54,7 @@ pub fn meaning(words: &Words) -> ([bool; TABLE_WORDS], [bool; TABLE_OCTETS]) {
     let mut of_words = [false; TABLE_WORDS];
     let mut of_octets = [false; TABLE_OCTETS];
     let count = words[COUNT] as usize;
-    of_words[CLOCK..=COUNT].fill(true);
+    of_words[CLOCK..=FLOOR].fill(true);
     of_words[MAP..][..count].fill(true);
     for place in 0..count {
         let from = row(place);
@@ -212,6 +212,7 @@ pub fn table_of(table: &Table) -> second::Table {
 pub fn theirs(view: &View) -> second::Table {
     second::Table {
         clock: view.clock,
+        floor: view.floor,
         pairs: view.pairs.iter().map(pair_of).collect(),
     }
 }

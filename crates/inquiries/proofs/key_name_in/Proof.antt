@@ -17,8 +17,8 @@ use Rattle.inquiries.proofs.key_name_in.Tie as tie
 pair-of-requires : tie.Need-pair-of-requires
 pair-of-requires c κs = (rules-layout _ _ (c .before .before .before .pre .0), c .before .before .before .pre .1)
 
-was-issued-requires : tie.Need-was-issued-requires
-was-issued-requires c κs = search needs
+below-next-requires : tie.Need-below-next-requires
+below-next-requires c κs = search needs
 
 not-spelt-requires : tie.Need-not-spelt-requires
 not-spelt-requires c κs = search needs
@@ -27,7 +27,7 @@ returns : tie.Need-returns
 returns c =
     let a = c .before .before .before .before .before .before .before .args in
     let t = tableOf (now (a .words)) (now (a .suffixes)) in
-    spells-refused (now (a .out)) 10 (never-issued t _ _ _ _ (c .before .before .before .pair-of .ensures) (c .before .before .was-issued .ensures) (not-true _ (c .before .if1 .taken))) (c .not-spelt .ensures)
+    spells-refused (now (a .out)) 10 (never-issued t _ _ _ _ (c .before .before .before .pair-of .ensures) (c .before .before .below-next .ensures) (not-true _ (c .before .if1 .taken))) (c .not-spelt .ensures)
 
 suffix-of-requires : tie.Need-suffix-of-requires
 suffix-of-requires c κs = (rules-layout _ _ (c .before .before .before .before .before .before .before .pre .0), c .before .before .before .before .before .before .before .pre .1)
@@ -37,7 +37,7 @@ spell-requires c κs =
     let a = c .before .before .before .before .before .before .before .before .args in
     let t = tableOf (now (a .words)) (now (a .suffixes)) in
     let short = suffix-short (now (a .words)) (now (a .suffixes)) (rules-layout _ _ (c .before .before .before .before .before .before .before .before .pre .0)) _ (c .before .before .before .before .before .before .before .before .pre .1) in
-    (issued-short t _ 0 _ _ (c .before .before .before .before .pair-of .ensures) (c .before .before .before .was-issued .ensures) (not-false _ (c .before .before .if1 .left)) (c .before .before .before .before .before .before .before .before .pre .0) (c .before .before .before .before .before .before .before .before .pre .1), rw (c .suffix-of .ensures) short)
+    (issued-short t _ 0 _ _ (c .before .before .before .before .pair-of .ensures) (c .before .before .before .below-next .ensures) (not-false _ (c .before .before .if1 .left)) (c .before .before .before .before .before .before .before .before .pre .0) (c .before .before .before .before .before .before .before .before .pre .1), rw (c .suffix-of .ensures) short)
 
 same-length : tie.Need-same-length
 same-length c = search needs
@@ -48,14 +48,14 @@ returns-2 c =
     let t = tableOf (now (a .words)) (now (a .suffixes)) in
     let room = length (now (a .out)) in
     let named = ap (λ (x : List ℕ). speltIn room (keyName (a .serial) x)) (c .before .before .before .suffix-of .ensures) in
-    spells-as (named ∙ sym (issued-passes t _ room _ _ (c .before .before .before .before .before .before .before .pair-of .ensures) (c .before .before .before .before .before .before .was-issued .ensures) (not-false _ (c .before .before .before .before .before .if1 .left)))) (c .before .before .spell .ensures)
+    spells-as (named ∙ sym (issued-passes t _ room _ _ (c .before .before .before .before .before .before .before .pair-of .ensures) (c .before .before .before .before .before .before .below-next .ensures) (not-false _ (c .before .before .before .before .before .if1 .left)))) (c .before .before .spell .ensures)
 
 pub key-name-in-spec : {M : Type 1} → statement M
 key-name-in-spec =
     tie.close
     (tie.spec
     pair-of-requires
-    was-issued-requires
+    below-next-requires
     not-spelt-requires
     returns
     suffix-of-requires

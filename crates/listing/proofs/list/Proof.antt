@@ -13,7 +13,7 @@ use Rattle.octets.proofs.Laws.{then, wrote-as}
 use Rattle.octets.proofs.Back.{wrote-none}
 use Rattle.store.specs.Layout.{tableOf}
 use Rattle.outcomes.proofs.Laws.{shown-clock, shown-count, suffix-short}
-use Rattle.listing.proofs.Laws.{rows-next, rules, layout, long, few}
+use Rattle.listing.proofs.Laws.{rows-next, rules, layout, long, few, shown-floor}
 use Rattle.listing.proofs.list.Statement.{statement}
 use Rattle.listing.proofs.list.Tie as tie
 
@@ -34,11 +34,14 @@ returns c =
 shared-slice-read-clock-line : tie.Need-shared-slice-read-clock-line Inv-loop μ-loop
 shared-slice-read-clock-line c = omega (arith, long (c .before .before .before .before .before .before .before .args .words .now) (c .before .before .before .before .before .before .before .args .suffixes .now) (c .before .before .before .rules-ok .ensures) (not-false _ (c .before .before .if1 .left)))
 
+shared-slice-read-clock-line-2 : tie.Need-shared-slice-read-clock-line-2 Inv-loop μ-loop
+shared-slice-read-clock-line-2 c = omega (arith, long (c .before .before .before .before .before .before .before .before .args .words .now) (c .before .before .before .before .before .before .before .before .args .suffixes .now) (c .before .before .before .before .rules-ok .ensures) (not-false _ (c .before .before .before .if1 .left)))
+
 clock-line-requires : tie.Need-clock-line-requires Inv-loop μ-loop
 clock-line-requires c κs = search needs
 
 shared-slice-read-n : tie.Need-shared-slice-read-n Inv-loop μ-loop
-shared-slice-read-n c = omega (arith, long (c .before .before .before .before .before .before .before .before .before .before .before .args .words .now) (c .before .before .before .before .before .before .before .before .before .before .before .args .suffixes .now) (c .before .before .before .before .before .before .before .rules-ok .ensures) (not-false _ (c .before .before .before .before .before .before .if1 .left)))
+shared-slice-read-n c = omega (arith, long (c .before .before .before .before .before .before .before .before .before .before .before .before .args .words .now) (c .before .before .before .before .before .before .before .before .before .before .before .before .args .suffixes .now) (c .before .before .before .before .before .before .before .before .rules-ok .ensures) (not-false _ (c .before .before .before .before .before .before .before .if1 .left)))
 
 loop-holds : tie.Need-loop-holds Inv-loop μ-loop
 unfolding rowsLines
@@ -47,37 +50,37 @@ loop-holds c =
 
 pair-of-requires : tie.Need-pair-of-requires Inv-loop μ-loop
 pair-of-requires c κs =
-    let w = c .before .before .before .before .before .before .before .before .before .before .before .before .before .args .words .now in
-    let s = c .before .before .before .before .before .before .before .before .before .before .before .before .before .args .suffixes .now in
-    let l = layout w s (c .before .before .before .before .before .before .before .before .before .rules-ok .ensures) (not-false _ (c .before .before .before .before .before .before .before .before .if1 .left)) in
-    (l, omega (arith, shown-count w s l))
-
-suffix-of-requires : tie.Need-suffix-of-requires Inv-loop μ-loop
-suffix-of-requires c κs =
     let w = c .before .before .before .before .before .before .before .before .before .before .before .before .before .before .args .words .now in
     let s = c .before .before .before .before .before .before .before .before .before .before .before .before .before .before .args .suffixes .now in
     let l = layout w s (c .before .before .before .before .before .before .before .before .before .before .rules-ok .ensures) (not-false _ (c .before .before .before .before .before .before .before .before .before .if1 .left)) in
     (l, omega (arith, shown-count w s l))
 
+suffix-of-requires : tie.Need-suffix-of-requires Inv-loop μ-loop
+suffix-of-requires c κs =
+    let w = c .before .before .before .before .before .before .before .before .before .before .before .before .before .before .before .args .words .now in
+    let s = c .before .before .before .before .before .before .before .before .before .before .before .before .before .before .before .args .suffixes .now in
+    let l = layout w s (c .before .before .before .before .before .before .before .before .before .before .before .rules-ok .ensures) (not-false _ (c .before .before .before .before .before .before .before .before .before .before .if1 .left)) in
+    (l, omega (arith, shown-count w s l))
+
 row-lines-requires : tie.Need-row-lines-requires Inv-loop μ-loop
 row-lines-requires c κs =
-    let w = c .before .before .before .before .before .before .before .before .before .before .before .before .before .before .before .before .args .words .now in
-    let s = c .before .before .before .before .before .before .before .before .before .before .before .before .before .before .before .before .args .suffixes .now in
-    let l = layout w s (c .before .before .before .before .before .before .before .before .before .before .before .before .rules-ok .ensures) (not-false _ (c .before .before .before .before .before .before .before .before .before .before .before .if1 .left)) in
-    (omega (arith, few w s (c .before .before .before .before .before .before .before .before .before .before .before .before .rules-ok .ensures) (not-false _ (c .before .before .before .before .before .before .before .before .before .before .before .if1 .left))), rw (c .before .suffix-of .ensures) (suffix-short w s l _ (omega (arith, shown-count w s l))))
+    let w = c .before .before .before .before .before .before .before .before .before .before .before .before .before .before .before .before .before .args .words .now in
+    let s = c .before .before .before .before .before .before .before .before .before .before .before .before .before .before .before .before .before .args .suffixes .now in
+    let l = layout w s (c .before .before .before .before .before .before .before .before .before .before .before .before .before .rules-ok .ensures) (not-false _ (c .before .before .before .before .before .before .before .before .before .before .before .before .if1 .left)) in
+    (omega (arith, few w s (c .before .before .before .before .before .before .before .before .before .before .before .before .before .rules-ok .ensures) (not-false _ (c .before .before .before .before .before .before .before .before .before .before .before .before .if1 .left))), rw (c .before .suffix-of .ensures) (suffix-short w s l _ (omega (arith, shown-count w s l))))
 
 add-i : tie.Need-add-i Inv-loop μ-loop
 add-i c =
-    record { fits = omega (arith, few (c .before .before .before .before .before .before .before .before .before .before .before .before .before .before .before .before .before .before .before .args .words .now) (c .before .before .before .before .before .before .before .before .before .before .before .before .before .before .before .before .before .before .before .args .suffixes .now) (c .before .before .before .before .before .before .before .before .before .before .before .before .before .before .before .rules-ok .ensures) (not-false _ (c .before .before .before .before .before .before .before .before .before .before .before .before .before .before .if1 .left))) }
+    record { fits = omega (arith, few (c .before .before .before .before .before .before .before .before .before .before .before .before .before .before .before .before .before .before .before .before .args .words .now) (c .before .before .before .before .before .before .before .before .before .before .before .before .before .before .before .before .before .before .before .before .args .suffixes .now) (c .before .before .before .before .before .before .before .before .before .before .before .before .before .before .before .before .rules-ok .ensures) (not-false _ (c .before .before .before .before .before .before .before .before .before .before .before .before .before .before .before .if1 .left))) }
 
 loop-less : tie.Need-loop-less Inv-loop μ-loop
 loop-less c = search needs
 
 loop-again : tie.Need-loop-again Inv-loop μ-loop
 loop-again c =
-    let w = c .before .before .before .before .before .before .before .before .before .before .before .before .before .before .before .before .before .before .before .args .words .now in
-    let s = c .before .before .before .before .before .before .before .before .before .before .before .before .before .before .before .before .before .before .before .args .suffixes .now in
-    let l = layout w s (c .before .before .before .before .before .before .before .before .before .before .before .before .before .before .before .rules-ok .ensures) (not-false _ (c .before .before .before .before .before .before .before .before .before .before .before .before .before .before .if1 .left)) in
+    let w = c .before .before .before .before .before .before .before .before .before .before .before .before .before .before .before .before .before .before .before .before .args .words .now in
+    let s = c .before .before .before .before .before .before .before .before .before .before .before .before .before .before .before .before .before .before .before .before .args .suffixes .now in
+    let l = layout w s (c .before .before .before .before .before .before .before .before .before .before .before .before .before .before .before .before .rules-ok .ensures) (not-false _ (c .before .before .before .before .before .before .before .before .before .before .before .before .before .before .before .if1 .left)) in
     let k = c .before .before .before .before .before .before .before .loop in
     let rows = rows-next (tableOf w s) (k .i) (omega (arith, shown-count w s l)) (c .before .before .before .before .suffix-of .ensures) (c .before .before .before .before .before .pair-of .ensures) in
     (omega arith, omega arith, omega arith, wrote-as rows (then (k .inv .3) (c .before .before .row-lines .ensures .1)))
@@ -88,12 +91,12 @@ same-length c = search needs
 returns-2 : tie.Need-returns-2 Inv-loop μ-loop
 unfolding listing
 returns-2 c =
-    let w = c .before .before .before .before .before .before .before .before .before .before .before .before .before .args .words .now in
-    let s = c .before .before .before .before .before .before .before .before .before .before .before .before .before .args .suffixes .now in
-    let l = layout w s (c .before .before .before .before .before .before .before .before .before .rules-ok .ensures) (not-false _ (c .before .before .before .before .before .before .before .before .if1 .left)) in
+    let w = c .before .before .before .before .before .before .before .before .before .before .before .before .before .before .args .words .now in
+    let s = c .before .before .before .before .before .before .before .before .before .before .before .before .before .before .args .suffixes .now in
+    let l = layout w s (c .before .before .before .before .before .before .before .before .before .before .rules-ok .ensures) (not-false _ (c .before .before .before .before .before .before .before .before .before .if1 .left)) in
     let k = c .before .loop in
     let e : take (k .i) (tableOf w s .rows) ≡ tableOf w s .rows = take-all (k .i) (tableOf w s .rows) (omega (arith, shown-count w s l)) in
-    (rules w s (c .before .before .before .before .before .before .before .before .before .rules-ok .ensures) (not-false _ (c .before .before .before .before .before .before .before .before .if1 .left)), rw (shown-clock w s l) (then (c .before .before .before .before .before .clock-line .ensures .1) (wrote-as (ap rowsLines e) (k .inv .3))))
+    (rules w s (c .before .before .before .before .before .before .before .before .before .before .rules-ok .ensures) (not-false _ (c .before .before .before .before .before .before .before .before .before .if1 .left)), rw (shown-clock w s l, shown-floor w s (c .before .before .before .before .before .before .before .before .before .before .rules-ok .ensures) (not-false _ (c .before .before .before .before .before .before .before .before .before .if1 .left))) (then (c .before .before .before .before .before .clock-line .ensures .1) (wrote-as (ap rowsLines e) (k .inv .3))))
 
 pub list-spec : {M : Type 1} → statement M
 list-spec =
@@ -104,6 +107,7 @@ list-spec =
     rules-ok-requires
     returns
     shared-slice-read-clock-line
+    shared-slice-read-clock-line-2
     clock-line-requires
     shared-slice-read-n
     loop-holds

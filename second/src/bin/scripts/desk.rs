@@ -38,6 +38,7 @@ impl Pair {
 #[derive(Clone, Debug, Default, PartialEq)]
 pub struct Table {
     pub clock: u64,
+    pub floor: u64,
     pub pairs: Vec<Pair>,
 }
 
@@ -70,7 +71,10 @@ impl Table {
         for line in listing.lines() {
             let fields: Vec<&str> = line.split('\t').collect();
             match fields[0] {
-                "clock" => table.clock = read_number(fields[1]),
+                "clock" => {
+                    table.clock = read_number(fields[1]);
+                    table.floor = read_number(fields[2]);
+                }
                 "pair" => table.pairs.push(Pair {
                     suffix: read_hex(fields[1]),
                     next: read_number(fields[2]),
@@ -109,6 +113,7 @@ impl Table {
         };
         self.pairs.len() <= 64
             && self.clock < 1 << 48
+            && (1..=1 << 32).contains(&self.floor)
             && self.pairs.iter().all(|p| {
                 p.adopted.iter().chain(&p.waiting).all(|k| key_sound(p, k)) && waiting_sound(p)
             })

@@ -22,11 +22,12 @@ const SPENT: &str = "takes 2^32 keys of one pair";
 const WAITING: &str = "a waiting key comes from a granted renewal only, which ends the signing \
 key's fresh time then; so step 7 answers every later deletion with PartialRevoke";
 
-const CALLS: [(&str, &[u64]); 19] = [
+const CALLS: [(&str, &[u64]); 20] = [
     ("new", &[0, 2]),
     ("enrol", &[0, 2, 3, 12, 13, 14, 15]),
     ("issue", &[0, 2, 3, 9, 13]),
     ("revoke", &[0, 2, 3, 9, 10]),
+    ("close", &[0, 2, 3, 9]),
     ("look", &[0, 4, 6, 7]),
     ("message", &[0, 2, 3, 4, 5, 6, 7, 8, 19]),
     ("batch", &[0, 17]),
@@ -84,14 +85,16 @@ const OUTCOMES: [&str; 37] = [
     "look 0 0",
 ];
 
-const NEVER: [(&str, &str); 17] = [
+const NEVER: [(&str, &str); 19] = [
     ("enrol 1", TABLE),
     ("issue 1", TABLE),
     ("revoke 1", TABLE),
+    ("close 1", TABLE),
     ("look 1", TABLE),
     ("message 1", TABLE),
     ("batch 1", TABLE),
     ("batch item 1", TABLE),
+    ("enrol 11", SPENT),
     ("issue 11", SPENT),
     ("precedence: NOPAIR over SPENT, SPENT over TERM", SPENT),
     ("tkey error 2 for want of a serial", SPENT),
@@ -129,7 +132,7 @@ impl Reached {
                 reached.add(format!("{call} {number}"), None);
             }
         }
-        for call in ["enrol", "issue", "revoke", "message", "batch item"] {
+        for call in ["enrol", "issue", "revoke", "close", "message", "batch item"] {
             reached.add(format!("clock moved by a refused {call}"), None);
         }
         for outcome in OUTCOMES {

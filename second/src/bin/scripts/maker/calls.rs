@@ -63,6 +63,11 @@ impl Maker<'_> {
         self.line(line.as_bytes())
     }
 
+    pub fn close(&mut self, time: u64, pair: u64) -> Outcome {
+        let line = format!("close {} {}", self.number(time), self.number(pair));
+        self.line(line.as_bytes())
+    }
+
     pub fn look(&mut self, message: &[u8]) -> Outcome {
         let line = format!("look {}", self.hex(message));
         self.line(line.as_bytes())

@@ -177,7 +177,7 @@ fn bad_line(maker: &mut Maker, item: &str) -> Vec<u8> {
     match item {
         "empty" => vec![],
         "one space" => b" ".to_vec(),
-        "unknown word" => format!("close{rest}").into(),
+        "unknown word" => format!("shut{rest}").into(),
         "word in capitals" => format!("{}{rest}", first.to_uppercase()).into(),
         "word with a letter more" => format!("{first}s{rest}").into(),
         "comment" => format!("# {line}").into(),

@@ -4,6 +4,7 @@
 mod answers;
 mod batch_keys;
 mod batches;
+mod closings;
 mod damage;
 mod exchange;
 mod keying;
@@ -84,6 +85,7 @@ pub fn groups() -> Vec<Group> {
     let mut all = Vec::new();
     all.extend(refusals::groups());
     all.extend(tables::groups());
+    all.extend(closings::groups());
     all.extend(times::groups());
     all.extend(names::groups());
     all.extend(damage::groups());

@@ -296,7 +296,7 @@ fn terms(maker: &mut Maker, item: &str) -> bool {
     let seen = maker.enrol(time, &suffix, terms, algorithm);
     let fits = terms.1 >= 1 && terms.1 < terms.0 && terms.0 < BIG;
     match fits {
-        true => done(&seen) && seen.pair == maker.count() && seen.serial == 1,
+        true => done(&seen) && seen.pair == maker.count() && seen.serial == maker.table.floor,
         false => refused(&seen, 13),
     }
 }

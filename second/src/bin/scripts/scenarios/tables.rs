@@ -46,9 +46,10 @@ pub fn groups() -> Vec<Group> {
     ]
 }
 
-fn numbered(seen: &Outcome, number: u64) -> bool {
+/// An enrolment ends so; a key that it makes has the floor's serial.
+fn numbered(maker: &Maker, seen: &Outcome, number: u64) -> bool {
     match number {
-        0 => seen.is_call() && seen.number == 0 && seen.serial == 1,
+        0 => seen.is_call() && seen.number == 0 && seen.serial == maker.table.floor,
         _ => Want::Refused(number).fits(seen),
     }
 }
@@ -124,7 +125,7 @@ fn suffix(maker: &mut Maker, item: &str) -> bool {
     let time = maker.tick();
     let algorithm = maker.rng.algorithm();
     let seen = maker.enrol(time, &octets, (600, 400), algorithm);
-    numbered(&seen, number)
+    numbered(maker, &seen, number)
 }
 
 fn one_octet_labels() -> Vec<u8> {
@@ -185,7 +186,7 @@ fn near(maker: &mut Maker, item: &str) -> bool {
 fn enrol_and_use(maker: &mut Maker, suffix: &[u8]) -> bool {
     let time = maker.tick();
     let seen = maker.enrol(time, suffix, (6000, 4000), 256);
-    numbered(&seen, 0) && seen.pair == maker.count()
+    numbered(maker, &seen, 0) && seen.pair == maker.count()
 }
 
 fn use_both(maker: &mut Maker) -> bool {

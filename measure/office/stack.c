@@ -1,24 +1,14 @@
-/* The stack that each call of the resolver takes, as it is exported for C. The call runs on a stack of its own that was filled with one octet, and what it
+/* The stack that each call of the office's archive takes: the resolver's and the signing calls. The call runs on a stack of its own that was filled with one octet, and what it
  * changed is counted; then it runs again on a stack of 8 KiB, below which lies a page that nobody may touch. The state is made anew before each. The octets
  * at the top that makecontext takes for itself are counted apart. Ends with 1 where a call takes more. */
 #define _GNU_SOURCE
-#include <stdbool.h>
-#include <stdint.h>
 #include <stdio.h>
 #include <string.h>
 #include <sys/mman.h>
 #include <ucontext.h>
 #include <unistd.h>
 
-uint64_t luffcringle_resolver_hold(uint64_t words[12], uint8_t names[510], const uint8_t *name, size_t name_length, uint64_t algorithm, uint32_t inception,
-                                   uint32_t expiration);
-uint64_t luffcringle_resolver_renewal(uint64_t words[12], uint8_t names[510], uint16_t id, const uint8_t *name, size_t name_length, uint64_t algorithm,
-                                      uint32_t inception, uint32_t expiration, const uint8_t *record, size_t record_length, uint8_t *out, size_t out_length,
-                                      uint64_t told[2]);
-uint64_t luffcringle_resolver_adoption(uint64_t words[12], uint8_t names[510], uint16_t id, uint8_t *out, size_t out_length, uint64_t told[2]);
-uint64_t luffcringle_resolver_deletion(uint64_t words[12], uint8_t names[510], uint16_t id, uint8_t *out, size_t out_length, uint64_t told[2]);
-void luffcringle_resolver_note(uint64_t words[12], uint8_t names[510], uint16_t id);
-uint64_t luffcringle_resolver_reply(uint64_t words[12], uint8_t names[510], bool good, const uint8_t *message, size_t message_length, uint64_t told[4]);
+#include "luffcringle.h"
 
 enum { FILL = 0xa5, STACK = 1 << 20, LIMIT = 8192, MESSAGE = 65535, ID = 4660, DATA = 16, RENEWAL = 4098, ADOPTION = 4100 };
 
@@ -50,6 +40,37 @@ static void deletion(void) { number = luffcringle_resolver_deletion(words, names
 static void note(void) { luffcringle_resolver_note(words, names, ID), number = 0; }
 static void reply(void) { number = luffcringle_resolver_reply(words, names, true, message, size, told); }
 
+/* The signing calls: those that read take the reply, those that write take what is left of it without its TSIG. */
+static uint8_t bare[MESSAGE], digest[2 * MESSAGE], owner[255], hash[255];
+static const uint8_t sha512[] = "\13hmac-sha512", mac[64];
+static uint64_t bare_size, written, fields[10];
+
+static void read_tsig(void) { number = luffcringle_read_tsig(message, size, owner, hash, fields); }
+static void take_off(void) { number = luffcringle_remove(message, size, bare, sizeof bare, &bare_size); }
+static void received_request(void) { number = luffcringle_received_request(message, size, digest, sizeof digest, &written); }
+static void received_reply(void) { number = luffcringle_received_reply(mac, sizeof mac, message, size, digest, sizeof digest, &written); }
+static void received_later(void) {
+    number = luffcringle_received_later(mac, sizeof mac, message, 100, message, size, digest, sizeof digest, &written);
+}
+static void digest_request(void) {
+    number = luffcringle_digest_request(bare, bare_size, key, sizeof key, sha512, sizeof sha512, 1, 2, 3, 4, mac, 6, digest, sizeof digest, &written);
+}
+static void digest_reply(void) {
+    number = luffcringle_digest_reply(mac, sizeof mac, bare, bare_size, key, sizeof key, sha512, sizeof sha512, 1, 2, 3, 4, mac, 6, digest, sizeof digest,
+                                      &written);
+}
+static void digest_later(void) {
+    number = luffcringle_digest_later(mac, sizeof mac, message, 100, bare, bare_size, 1, 2, 3, digest, sizeof digest, &written);
+}
+static void finish_it(void) {
+    number = luffcringle_finish(bare, bare_size, sha512, sizeof sha512, sha512, sizeof sha512, 1, 2, 3, 4, mac, 32, mac, 6, digest, sizeof digest, &written);
+}
+static void (*const signing[])(void) = {read_tsig,      take_off,     received_request, received_reply, received_later,
+                                        digest_request, digest_reply, digest_later,     finish_it};
+enum { SIGNING = sizeof signing / sizeof *signing };
+static const char *const signing_calls[SIGNING] = {"read a TSIG",       "remove it",         "digest of a request that came", "of a reply", "of a later message",
+                                                   "digest of a request", "of a reply", "of a later message",            "the finished message"};
+
 static void run(void (*call)(void), uint8_t *bottom, size_t octets) {
     getcontext(&there);
     there.uc_stack.ss_sp = bottom;
@@ -71,6 +92,8 @@ static size_t taken(void (*call)(void)) {
  * the adopted key is to sign it. */
 static bool worked(void (*call)(void), size_t mode) {
     if (number != 0) return false;
+    for (size_t i = 0; i < SIGNING; i++)
+        if (call == signing[i]) return true;
     if (call == hold) return words[0] == 1 && words[9] == 0;
     if (call == note) return words[9] == 1 && words[10] == ID;
     if (call != reply) return told[0] != 0 && told[1] == 1;
@@ -163,6 +186,12 @@ int main(void) {
     usual(ADOPTION), show("read a reply that adopts", reply, ADOPTION);
     deepest(ADOPTION), show("the same, its names of 127 runs of a label and a pointer", reply, ADOPTION);
     chain(ADOPTION), show("the same, 65,535 octets, its names at the end of 8,186 pointers", reply, ADOPTION);
+    static void (*const made[])(size_t) = {usual, deepest, chain};
+    static const char *const messages[] = {"a reply:", "its names of 127 runs of a label and a pointer:", "65,535 octets, its names at the end of 8,186 pointers:"};
+    for (size_t i = 0; i < 3; i++) {
+        puts(messages[i]), made[i](RENEWAL);
+        for (size_t k = 0; k < SIGNING; k++) show(signing_calls[k], signing[k], RENEWAL);
+    }
     puts(failed ? "more than 8 KiB, or a call that did not do its work" : "each within 8 KiB, makecontext's octets included");
     return failed;
 }

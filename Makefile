@@ -1,7 +1,9 @@
-# Luffcringle's archives for C and Rust, and their installation.
+# Luffcringle's archives for C and Rust, the program `listing`, and their installation.
 #
-#   make                    proves what they hold and builds target/staticlib/libluffcringle.a (all) and libluffcringle-office.a (signatures and the resolver)
-#   make install            installs both, the header, and a file for pkg-config for each; PREFIX, INCLUDEDIR, LIBDIR and DESTDIR say where
+#   make                    proves what they hold and builds target/staticlib/libluffcringle.a (all) and libluffcringle-office.a (signatures and the resolver),
+#                           and target/bin/listing, the program that reads and mends listings
+#   make install            installs both, the header, a file for pkg-config for each, and the program as luffcringle-listing; PREFIX, INCLUDEDIR, LIBDIR,
+#                           BINDIR and DESTDIR say where
 #   make uninstall          removes what was installed
 
 SHELL := bash
@@ -10,18 +12,21 @@ SHELL := bash
 PREFIX ?= /usr/local
 INCLUDEDIR ?= $(PREFIX)/include
 LIBDIR ?= $(PREFIX)/lib
+BINDIR ?= $(PREFIX)/bin
 INSTALL ?= install
+CFLAGS ?= -O2
 
-version := 0.3.0
+version := 0.4.0
 built := target/staticlib
 office_crates := capi_signing capi_resolver capi_version
-crates := capi $(office_crates)
+crates := capi capi_listing $(office_crates)
 archives := $(built)/libluffcringle.a $(built)/libluffcringle-office.a
 packages := luffcringle luffcringle-office
+program := target/bin/listing
 
 .PHONY: all objects install uninstall
 
-all: $(archives)
+all: $(archives) $(program)
 
 # Each crate's archive has one object; what is out of date is for rt to say.
 objects:
@@ -34,14 +39,18 @@ $(built)/libluffcringle.a: objects
 $(built)/libluffcringle-office.a: objects
 	rm -f $@ && cd $(built) && ar rcsD $(@F) $(office_crates:=.o)
 
+$(program): bindings/c/listing.c include/luffcringle.h $(built)/libluffcringle.a
+	mkdir -p $(@D) && $(CC) -std=c11 -Wall -Wextra $(CFLAGS) -Iinclude $< $(LDFLAGS) $(built)/libluffcringle.a -o $@
+
 install: all
-	$(INSTALL) -d $(DESTDIR)$(INCLUDEDIR) $(DESTDIR)$(LIBDIR)/pkgconfig
+	$(INSTALL) -d $(DESTDIR)$(INCLUDEDIR) $(DESTDIR)$(LIBDIR)/pkgconfig $(DESTDIR)$(BINDIR)
 	$(INSTALL) -m 644 include/luffcringle.h $(DESTDIR)$(INCLUDEDIR)
 	$(INSTALL) -m 644 $(archives) $(DESTDIR)$(LIBDIR)
+	$(INSTALL) -m 755 $(program) $(DESTDIR)$(BINDIR)/luffcringle-listing
 	for package in $(packages); do \
 	    sed -e 's|@VERSION@|$(version)|; s|@INCLUDEDIR@|$(INCLUDEDIR)|; s|@LIBDIR@|$(LIBDIR)|' bindings/c/$$package.pc.in \
 	        >$(DESTDIR)$(LIBDIR)/pkgconfig/$$package.pc || exit 1; \
 	done
 
 uninstall:
-	rm -f $(DESTDIR)$(INCLUDEDIR)/luffcringle.h $(archives:$(built)/%=$(DESTDIR)$(LIBDIR)/%) $(packages:%=$(DESTDIR)$(LIBDIR)/pkgconfig/%.pc)
+	rm -f $(DESTDIR)$(BINDIR)/luffcringle-listing $(DESTDIR)$(INCLUDEDIR)/luffcringle.h $(archives:$(built)/%=$(DESTDIR)$(LIBDIR)/%) $(packages:%=$(DESTDIR)$(LIBDIR)/pkgconfig/%.pc)

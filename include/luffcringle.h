@@ -1,11 +1,12 @@
 /* Luffcringle: the key table of a DNS server, what is under a TSIG's MAC, and the resolver's half of a key's renewal, for C and C++. Three parts:
  *
- *   the table      luffcringle_new_table .. luffcringle_batch; inquiries into it; what a TKEY request asks for
+ *   the table      luffcringle_new_table .. luffcringle_batch; the table as text; inquiries into it; what a TKEY request asks for
  *   signatures     the octets that a MAC is calculated over, a TSIG appended, read and removed: for whoever calculates MACs
  *   the resolver   luffcringle_resolver_*: an office's program or router that renews its key
  *
- * `make install` installs this header, libluffcringle.a with all of it and libluffcringle-office.a with the last two parts alone, and a file for pkg-config
- * for each (luffcringle, luffcringle-office). Nothing else is needed to link them: no call allocates, waits, reads a file or a clock, or keeps anything.
+ * `make install` installs this header, libluffcringle.a with all of it and libluffcringle-office.a with the last two parts alone, a file for pkg-config
+ * for each (luffcringle, luffcringle-office), and the program luffcringle-listing, which tests and mends the table as text. Nothing else is needed to link
+ * the archives: no call allocates, waits, reads a file or a clock, or keeps anything.
  *
  * Every function is proved, and takes every value of every argument; docs/ARCHITECTURE.md says where its contract stands.
  *
@@ -25,12 +26,12 @@ extern "C" {
 #endif
 
 /* The version of this header, and of the archive that is linked: 10,000 times the first number, 100 times the second, and the third. */
-#define LUFFCRINGLE_VERSION 300
+#define LUFFCRINGLE_VERSION 400
 uint64_t luffcringle_version(void);
 
 /* ---- The table ---- */
 
-/* What a call on the table, an inquiry or a signing call returns (document 01, "Numbers a caller sees"; the last three are of document 02). */
+/* What a call on the table, an inquiry or a signing call returns (document 01, "Numbers a caller sees"; the last four are of document 02). */
 enum luffcringle_number {
     LUFFCRINGLE_DONE = 0,      /* work done */
     LUFFCRINGLE_TABLE = 1,     /* what was lent holds no table, or one that breaks a table rule */
@@ -40,7 +41,8 @@ enum luffcringle_number {
     LUFFCRINGLE_OFFER = 5,     /* offered key data over 1024 octets */
     LUFFCRINGLE_FORMAT = 6,    /* message breaks a reading rule, at the place that the answer gives (signing calls give none) */
     LUFFCRINGLE_NOTQUERY = 7,  /* QR bit is 1 */
-    LUFFCRINGLE_ROOM = 8,      /* what is to be written is longer than the lent buffer; a reply or a finished message than 65535 octets */
+    LUFFCRINGLE_ROOM = 8,      /* what is to be written is longer than the lent buffer; a reply or a finished message than 65535 octets; mend: more lines are
+                                * dropped than can be named */
     LUFFCRINGLE_NOPAIR = 9,    /* pair number not enrolled; no pair with that suffix */
     LUFFCRINGLE_NOKEY = 10,    /* revoke early: no adopted key, or expired; key name: serial 0, or not below the next one */
     LUFFCRINGLE_SPENT = 11,    /* issue: next serial is 2^32; enrol: the floor is */
@@ -50,6 +52,7 @@ enum luffcringle_number {
     LUFFCRINGLE_FULL = 15,     /* 64 pairs enrolled */
     LUFFCRINGLE_MACSIZE = 16,  /* signing: a MAC of over 64 octets */
     LUFFCRINGLE_BATCH = 17,    /* batch: more than 64 items, or one outside the lent octets */
+    LUFFCRINGLE_LINE = 18,     /* load and mend: a line of the listing does not read */
     LUFFCRINGLE_KEYREC = 19    /* a renewal of mode 4097 would be granted, but the lent record is not one KEY record */
 };
 
@@ -76,8 +79,8 @@ enum luffcringle_number {
  * floor is not 1 to 2^32 (document 02). In a table that was stored before version 0.3.0, set word 2 to 1.
  *
  * Words 3 + n and places from the count on, the words of a key that there is not, and the octets after a suffix have no meaning: they may
- * hold anything and change no answer. So two tables that list alike need not be equal word for word. A table may be stored as it is, its words in
- * the machine's byte order, and lent again later. */
+ * hold anything and change no answer. So two tables that list alike need not be equal word for word. A table may be stored as text (below), or as it
+ * is, its words in the machine's byte order, and lent again later. */
 #define LUFFCRINGLE_TABLE_WORDS 1091
 #define LUFFCRINGLE_TABLE_OCTETS 8192
 struct luffcringle_table {
@@ -124,8 +127,8 @@ uint64_t luffcringle_enrol(uint64_t words[LUFFCRINGLE_TABLE_WORDS], uint8_t suff
                            uint64_t answer[LUFFCRINGLE_ANSWER_WORDS]);
 
 /* Close: the pair goes with its keys. Later pairs move down one number: number them anew, and keep nothing by number. The floor rises to the pair's
- * next serial, if that is higher, so that no name is ever made again, also where the suffix comes back; closing a pair that has used up its serials
- * makes every later enrolment SPENT. Answers pair 0 and serial 0. Refused with TABLE, TIME, CLOCK, NOPAIR. */
+ * next serial, if that is higher, so that no name is made again, also where the suffix comes back, until a table is loaded; closing a pair that has
+ * used up its serials makes every later enrolment SPENT. Answers pair 0 and serial 0. Refused with TABLE, TIME, CLOCK, NOPAIR. */
 uint64_t luffcringle_close(uint64_t words[LUFFCRINGLE_TABLE_WORDS], uint8_t suffixes[LUFFCRINGLE_TABLE_OCTETS], uint64_t time, uint64_t pair,
                            uint64_t answer[LUFFCRINGLE_ANSWER_WORDS]);
 
@@ -224,6 +227,61 @@ enum luffcringle_item {
 uint64_t luffcringle_batch(uint64_t words[LUFFCRINGLE_TABLE_WORDS], const uint8_t suffixes[LUFFCRINGLE_TABLE_OCTETS], uint64_t count,
                            const uint64_t items[LUFFCRINGLE_ITEMS_WORDS], const uint8_t *octets, size_t octets_length,
                            uint64_t answers[LUFFCRINGLE_ANSWERS_WORDS], uint8_t *replies, size_t replies_room);
+
+/* ---- The table as text (document 02, change request 7) ----
+ *
+ * A listing is the table as lines of text: what a server keeps on disk, and what an operator can read and edit. Fields are parted by one tab, each line ends
+ * with one newline, numbers are decimal without leading zeros. This one has one pair; `>` stands for a tab:
+ *
+ *   clock>1000>1                                  the clock, and the floor
+ *   pair>0161076578616d706c6500>2>600>400         each pair in order: suffix in lower-case hexadecimal, next serial, lifetime, fresh period
+ *   key>adopted>1>hmac-sha256>1000>1400>1600      its keys, adopted first: adopted or waiting, serial, algorithm, inception, partial, expiry
+ *
+ * There is no secret in it. Loading and listing undo each other: what is loaded lists as the same text, and what was listed loads as a table that answers and
+ * lists alike, though words without meaning may differ. Two tables list alike just where they hold the same clock, floor and pairs.
+ *
+ * These calls take no time; the clock after a load is the listing's. They are refused for the first reason that applies, in the order listed, and then nothing
+ * that is lent changes, the clock included, but the call's own words (*length, *line, told), which are 0 but for the line beside LINE.
+ *
+ * A load, and mending counts as one, starts anew what is promised over all calls since the table was made: that no two keys have one name, and that a key
+ * that is gone stays gone. Loading an old listing rewinds serials: a name may then be made again that was made before, and keys that were gone are back. So
+ * keep a listing after each call that changed the table, before its answer goes out, and load the last one.
+ *
+ * Stack: a load or a mend takes some 18 KB for the table that it makes before it takes the lent one's place; a list some 1.3 KB. */
+
+/* List: the listing of the table into the first octets of `text`, and their count into *length; the rest keep their contents. LUFFCRINGLE_LISTING_OCTETS
+ * are enough for every table. May share a table with looks. Refused with TABLE, ROOM. */
+#define LUFFCRINGLE_LISTING_OCTETS (48 + 64 * 541)
+uint64_t luffcringle_list(const uint64_t words[LUFFCRINGLE_TABLE_WORDS], const uint8_t suffixes[LUFFCRINGLE_TABLE_OCTETS], uint8_t *text,
+                          size_t text_room, uint64_t *length);
+
+/* Load: the table of a listing takes the place of the lent one, whatever that was; *line is 0. Refused with LINE (*line is the first line that does not
+ * read, from 1; line 1 of a text without octets), TABLE (the lines read, but the table that they list breaks a table rule; so do more than 64 pairs, and keys of
+ * a pair in the wrong number or order).
+ *
+ * A line reads when it has the shape above, newline included, its numbers below 2^64, its suffix 1 to 128 octets, and it stands where it may: line 1 is the
+ * clock's and no other is; a `key` line has a pair's line above it, with nothing but `key` lines between. */
+uint64_t luffcringle_load(uint64_t words[LUFFCRINGLE_TABLE_WORDS], uint8_t suffixes[LUFFCRINGLE_TABLE_OCTETS], const uint8_t *text, size_t text_length,
+                          uint64_t *line);
+
+/* Mend: what can be kept of a listing takes the place of the lent table. Line 1 is kept as it is; of the pairs, in order, exactly those whose lines all read
+ * and that break no table rule with the pairs kept before. Every other line is dropped, and named by two words of `named`, in order: its number, from 1, and
+ * the first reason that applies to its pair: LINE one of its lines does not read; TWIN its suffix is already kept; FULL 64 are kept; TABLE it breaks another
+ * rule. A `key` line belongs to the nearest other line above, and that starts a pair whether it reads or not; a `key` line that belongs to line 1 is
+ * dropped with LINE by itself.
+ *
+ * `named_words` counts words, two for each line: twice the lines of the text are always enough. Words of `named` behind those written keep their contents.
+ *
+ * Mending does not raise the floor: where a pair was dropped and its suffix is enrolled again, its names can be made again. To prevent that, write its next
+ * serial as the floor into line 1, if that is higher, before mending. Refused with LINE (line 1 does not read), TABLE (line 1 breaks a rule: the clock is
+ * 2^48 or more, or the floor not 1 to 2^32), ROOM. */
+#define LUFFCRINGLE_MENDING_WORDS 2
+enum luffcringle_mending {
+    LUFFCRINGLE_MENDING_LINE = 0,    /* the line that does not read, beside LINE: 1; else 0 */
+    LUFFCRINGLE_MENDING_DROPPED = 1  /* how many lines were dropped */
+};
+uint64_t luffcringle_mend(uint64_t words[LUFFCRINGLE_TABLE_WORDS], uint8_t suffixes[LUFFCRINGLE_TABLE_OCTETS], const uint8_t *text, size_t text_length,
+                          uint64_t *named, size_t named_words, uint64_t told[LUFFCRINGLE_MENDING_WORDS]);
 
 /* ---- Inquiries ----
  *

@@ -80,6 +80,11 @@ def main(program, script):
             expected += listing
         elif first.startswith(b'bad '):
             continue
+        elif line.startswith(b'mend '):
+            dropped = int(first.split(b' ')[2])
+            script.append(line)
+            expected += [first] + printed[at:at + dropped]
+            at += dropped
         elif line.startswith(b'batch '):
             refusal, count = first.split(b' ')
             assert (refusal, int(count)) == told(line), (line[:200], first)

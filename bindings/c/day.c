@@ -9,11 +9,7 @@
 #include "luffcringle.h"
 
 enum { LONGEST_LINE = 200000, MOST_OCTETS = LONGEST_LINE / 2, MOST_WORDS = LONGEST_LINE + 1 };
-enum { MOST_ROOM = 65535, MOST_BATCH_ROOM = 100000 };
-
-/* Where the words of a table and of a row are, and how many octets a suffix has for itself (luffcringle.h). */
-enum { CLOCK = 0, COUNT = 1, FLOOR = 2, MAP = 3, ROWS = 67, ROW_WORDS = 16, SUFFIX_OCTETS = 128 };
-enum { LENGTH = 1, LIFETIME = 2, FRESH = 3, NEXT_SERIAL = 4, KEYS = 5, ADOPTED = 6, WAITING = 11 };
+enum { MOST_ROOM = 65535, MOST_BATCH_ROOM = 100000, MOST_NAMED = 4096 };
 
 struct word {
     const char *text;
@@ -27,8 +23,9 @@ struct octets {
 
 static struct luffcringle_table table;
 static uint64_t answer[LUFFCRINGLE_ANSWER_WORDS], items[LUFFCRINGLE_ITEMS_WORDS], answers[LUFFCRINGLE_ANSWERS_WORDS];
-static uint8_t reply[MOST_ROOM], replies[MOST_BATCH_ROOM];
-static struct octets suffix, message, offer, record;
+static uint64_t named[2 * MOST_NAMED], told[LUFFCRINGLE_MENDING_WORDS];
+static uint8_t reply[MOST_ROOM], replies[MOST_BATCH_ROOM], text[LUFFCRINGLE_LISTING_OCTETS];
+static struct octets suffix, message, offer, record, listing;
 
 /* ---- Reading ---- */
 
@@ -148,29 +145,6 @@ static void print_batch(uint64_t number, uint64_t count) {
     }
 }
 
-static void print_key(const char *state, const uint64_t *key) {
-    printf("key\t%s\t%" PRIu64 "\thmac-sha%" PRIu64 "\t%" PRIu64 "\t%" PRIu64 "\t%" PRIu64 "\n", state, key[0], key[1], key[2], key[3], key[4]);
-}
-
-static void print_pair(const uint64_t *row, const uint8_t *octets) {
-    printf("pair\t");
-    print_hex(octets, (size_t)row[LENGTH]);
-    printf("\t%" PRIu64 "\t%" PRIu64 "\t%" PRIu64 "\n", row[NEXT_SERIAL], row[LIFETIME], row[FRESH]);
-    if (row[KEYS] >= 1)
-        print_key("adopted", row + ADOPTED);
-    if (row[KEYS] == 2)
-        print_key("waiting", row + WAITING);
-}
-
-/* In order of enrolment: the map has the place of each pair. */
-static void print_table(void) {
-    printf("clock\t%" PRIu64 "\t%" PRIu64 "\n", table.words[CLOCK], table.words[FLOOR]);
-    for (uint64_t i = 0; i < table.words[COUNT]; i++) {
-        uint64_t place = table.words[MAP + i];
-        print_pair(table.words + ROWS + ROW_WORDS * place, table.suffixes + SUFFIX_OCTETS * place);
-    }
-}
-
 /* ---- The calls: false where the words do not read, and then nothing is called ---- */
 
 static bool call_new(const struct word *w) {
@@ -221,6 +195,8 @@ static bool call_look(const struct word *w) {
     return true;
 }
 
+static size_t least(uint64_t number, size_t limit) { return number < limit ? (size_t)number : limit; }
+
 static bool judge(const struct word *w, bool fits) {
     uint64_t time, room;
     bool good;
@@ -228,7 +204,7 @@ static bool judge(const struct word *w, bool fits) {
         !read_octets(w[5], &message))
         return false;
     luffcringle_message(table.words, table.suffixes, time, good, message.octet, message.length, offer.octet, offer.length, fits, record.octet,
-                        record.length, reply, room < MOST_ROOM ? (size_t)room : MOST_ROOM, answer);
+                        record.length, reply, least(room, MOST_ROOM), answer);
     return true;
 }
 
@@ -256,8 +232,41 @@ static bool run_batch(const struct word *w, size_t words) {
             memcpy(items + LUFFCRINGLE_ITEM_WORDS * i, item, sizeof item);
     }
     print_batch(luffcringle_batch(table.words, table.suffixes, count, items, message.octet, message.length, answers, replies,
-                                  room < MOST_BATCH_ROOM ? (size_t)room : MOST_BATCH_ROOM),
+                                  least(room, MOST_BATCH_ROOM)),
                 count);
+    return true;
+}
+
+/* ---- The table as text: printed by themselves ---- */
+
+static bool run_list(const struct word *w, size_t words) {
+    uint64_t room = sizeof text, length, number;
+    if (words == 2 && !read_number(w[1], &room))
+        return false;
+    number = luffcringle_list(table.words, table.suffixes, text, least(room, sizeof text), &length);
+    if (number != LUFFCRINGLE_DONE)
+        printf("%" PRIu64 " 0\n", number);
+    fwrite(text, 1, (size_t)length, stdout);
+    return true;
+}
+
+static bool run_load(const struct word *w) {
+    uint64_t line, number;
+    if (!read_octets(w[1], &listing))
+        return false;
+    number = luffcringle_load(table.words, table.suffixes, listing.octet, listing.length, &line);
+    printf("%" PRIu64 " %" PRIu64 "\n", number, line);
+    return true;
+}
+
+static bool run_mend(const struct word *w) {
+    uint64_t room, number;
+    if (!read_number(w[1], &room) || !read_octets(w[2], &listing))
+        return false;
+    number = luffcringle_mend(table.words, table.suffixes, listing.octet, listing.length, named, 2 * least(room, MOST_NAMED), told);
+    printf("%" PRIu64 " %" PRIu64 " %" PRIu64 "\n", number, told[LUFFCRINGLE_MENDING_LINE], told[LUFFCRINGLE_MENDING_DROPPED]);
+    for (uint64_t i = 0; i < told[LUFFCRINGLE_MENDING_DROPPED]; i++)
+        printf("%" PRIu64 " %" PRIu64 "\n", named[2 * i], named[2 * i + 1]);
     return true;
 }
 
@@ -273,10 +282,12 @@ static const struct {
 static bool run_line(const char *line, size_t length) {
     static struct word words[MOST_WORDS];
     size_t count = split(line, length, words);
-    if (count == 1 && is(words[0], "list")) {
-        print_table();
-        return true;
-    }
+    if (count <= 2 && is(words[0], "list"))
+        return run_list(words, count);
+    if (count == 2 && is(words[0], "load"))
+        return run_load(words);
+    if (count == 3 && is(words[0], "mend"))
+        return run_mend(words);
     if (count >= 3 && is(words[0], "batch"))
         return run_batch(words, count);
     for (size_t i = 0; i < sizeof calls / sizeof calls[0]; i++)

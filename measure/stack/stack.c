@@ -18,9 +18,10 @@ enum { FILL = 0xa5, STACK = 1 << 20, ORDINARY = 4096, MOST = 20480, MESSAGE = 65
 enum { DIFFIE_HELLMAN = 4097, BY_SERVER = 4098, BY_RESOLVER = 4099, ADOPTION = 4100 };
 enum { COUNT = 1, FLOOR = 2, MAP = 3, ROWS = 67, ROW_WORDS = 16, NEXT_SERIAL = 4, KEYS = 5, ADOPTED = 6 };
 
-static uint8_t stack[STACK] __attribute__((aligned(64))), message[MESSAGE], reply[MESSAGE];
+static uint8_t stack[STACK] __attribute__((aligned(64))), message[MESSAGE], reply[MESSAGE], text[LUFFCRINGLE_LISTING_OCTETS];
 static struct luffcringle_table almost, full, renewed, table;
 static uint64_t answer[LUFFCRINGLE_ANSWER_WORDS], items[LUFFCRINGLE_ITEMS_WORDS], answers[LUFFCRINGLE_ANSWERS_WORDS];
+static uint64_t named[2 * 64], told[LUFFCRINGLE_MENDING_WORDS], length;
 static size_t size, base;
 static int failed;
 static ucontext_t here, there;
@@ -50,11 +51,19 @@ static void queue(void) {
     memcpy(answer, answers + LUFFCRINGLE_ANSWERS_WORDS - LUFFCRINGLE_ANSWER_WORDS, sizeof answer);
 }
 
+/* The listing of a full table; mending is given one pair more, with the first one's suffix. */
+static void list(void) { answer[LUFFCRINGLE_NUMBER] = luffcringle_list(table.words, table.suffixes, text, sizeof text, &length); }
+static void load(void) { answer[LUFFCRINGLE_NUMBER] = luffcringle_load(table.words, table.suffixes, text, length, told); }
+static void mend(void) { answer[LUFFCRINGLE_NUMBER] = luffcringle_mend(table.words, table.suffixes, text, length, named, sizeof named / 8, told); }
+
 /* ---- What a call did, beside being done ---- */
 
 static const uint64_t *first_row(void) { return table.words + ROWS + ROW_WORDS * table.words[MAP]; }
 
 static bool is_empty(void) { return table.words[COUNT] == 0; }
+static bool is_listed(void) { return length > 64 * 60 && text[length - 1] == '\n'; }
+static bool is_full(void) { return table.words[COUNT] == 64; }
+static bool is_mended(void) { return is_full() && told[LUFFCRINGLE_MENDING_DROPPED] == 1 && named[1] == LUFFCRINGLE_TWIN; }
 static bool is_64th(void) { return table.words[COUNT] == 64 && answer[LUFFCRINGLE_PAIR] == 64; }
 static bool is_second(void) { return answer[LUFFCRINGLE_PAIR] == 1 && answer[LUFFCRINGLE_SERIAL] == 2; }
 static bool is_signed(void) { return answer[LUFFCRINGLE_PAIR] == 1 && answer[LUFFCRINGLE_SERIAL] == 1 && answer[LUFFCRINGLE_LENGTH] == 0; }
@@ -215,6 +224,10 @@ int main(int argc, char **argv) {
     show("close", &full, close_first, is_63, MOST);
     show("issue", &full, issue, is_second, MOST);
     show("revoke", &full, revoke_early, is_signed, MOST);
+    show("list", &full, list, is_listed, MOST);
+    show("load", &almost, load, is_full, MOST);
+    length += (uint64_t)sprintf((char *)text + length, "pair\t016100\t1\t2\t1\n");
+    show("mend", &almost, mend, is_mended, MOST);
     update();
     show("look", &full, look, is_signed, MOST);
     show("message: an ordinary update", &full, judge, is_signed, ORDINARY);

@@ -20,6 +20,7 @@ pub mod batch;
 pub mod calls;
 pub mod inquiries;
 mod judging;
+pub mod listing;
 pub mod names;
 mod reply;
 pub mod resolver;

@@ -6,6 +6,7 @@ use std::io::{self, BufRead, Read, Write};
 use crate::batch::{self, Item, Span};
 use crate::calls::{self, Done, Refusal};
 use crate::judging::Given;
+use crate::listing::{self, Dropped};
 use crate::resolver::{self, Asked, Resolver, Which, Wish, Written};
 use crate::signing::{self, Fields};
 use crate::table::{Algorithm, Key, Table};
@@ -20,6 +21,8 @@ const MOST_ROOM: usize = 65_535;
 const MOST_LONG_ROOM: usize = 100_000;
 /// The most octets of a name that the resolver is given to hold.
 const LONGEST_HELD: usize = 255;
+/// The most dropped lines that `mend` can name.
+const MOST_NAMED: usize = 4_096;
 
 /// What one call comes to.
 type CallResult = Result<Done, Refusal>;
@@ -81,6 +84,8 @@ impl Runner {
             print_written(result, &self.buffer, out);
         } else if let Some(result) = self.sign(&words) {
             print_signing(result, &self.buffer, out);
+        } else if self.listing(&words, out).is_some() {
+            // It is done and printed.
         } else if let Some(message) = read_back_line(&words) {
             print_tsig(signing::read_back(&message), out);
         } else if self.tell_resolver(&words, out).is_none() {
@@ -92,6 +97,42 @@ impl Runner {
     pub fn too_long(&mut self, out: &mut Vec<u8>) {
         self.line += 1;
         print_bad_line(self.line, out);
+    }
+
+    /// CR 7: `list ROOM`, `load` and `mend`, done and printed. `None` is another
+    /// line, or a bad one.
+    fn listing(&mut self, words: &[&[u8]], out: &mut Vec<u8>) -> Option<()> {
+        match *words {
+            [b"list", room] => match listing::list(&self.table, size(room)?) {
+                Ok(text) => out.extend(text),
+                Err(refusal) => print(out, format_args!("{} 0\n", refusal.number())),
+            },
+            [b"load", text] => {
+                let result = listing::load(&octets(text)?);
+                let refusal = result.as_ref().err();
+                let (number, line) = refusal.map_or((0, 0), |r| (r.number(), r.line()));
+                print(out, format_args!("{number} {line}\n"));
+                result.into_iter().for_each(|table| self.table = table);
+            }
+            [b"mend", room, text] => {
+                let room = size(room)?.min(MOST_NAMED);
+                match listing::mend(&octets(text)?, room) {
+                    Ok((table, dropped)) => {
+                        self.table = table;
+                        print(out, format_args!("0 0 {}\n", dropped.len()));
+                        for Dropped { line, reason } in dropped {
+                            print(out, format_args!("{line} {reason}\n"));
+                        }
+                    }
+                    Err(refusal) => {
+                        let (number, line) = (refusal.number(), refusal.line());
+                        print(out, format_args!("{number} {line} 0\n"));
+                    }
+                }
+            }
+            _ => return None,
+        }
+        Some(())
     }
 
     /// SCRIPT.md: one call, its words parted by exactly one space. `None` is a
@@ -287,6 +328,11 @@ fn number(word: &[u8]) -> Option<u64> {
     };
     word.first()?;
     word.iter().try_fold(0, add)
+}
+
+/// A room that may be larger than any.
+fn size(word: &[u8]) -> Option<usize> {
+    Some(usize::try_from(number(word)?).unwrap_or(usize::MAX))
 }
 
 /// SCRIPT.md: a message ID, a fudge and an error are below 65,536.

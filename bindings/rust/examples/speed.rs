@@ -9,12 +9,15 @@
 #[path = "../tests/support/mod.rs"]
 mod support;
 
-use luffcringle::{Algorithm, Answer, Given, Item, Refusal, Span, Table, TsigError, Verdict};
+use luffcringle::{
+    Algorithm, Answer, Given, Item, Refusal, Span, Table, TsigError, Verdict, LISTING_OCTETS,
+};
 use std::hint::black_box;
 use std::path::Path;
 use std::process::Command;
 use std::time::Instant;
 use support::build::{hex, name, record, Draft, Tsig, A, IN, SOA};
+use support::words::hex_or_none;
 use support::{as_ours, given_to_them, good, table_of};
 
 /// Turns of a short call; one that takes longer gets fewer.
@@ -517,6 +520,60 @@ fn warm_up() {
     }
 }
 
+// ---- Listings ----
+
+/// The listing of so many pairs, each with an adopted and a waiting key.
+fn listing_of(pairs: u64) -> String {
+    let mut text = format!("clock\t{NOW}\t1\n");
+    for pair in 0..pairs {
+        let suffix = hex_or_none(format!("\x08office{pair:02}\x07example\0").as_bytes());
+        let (lifetime, fresh) = TERMS;
+        text += &format!("pair\t{suffix}\t3\t{lifetime}\t{fresh}\n");
+        for (state, serial, inception) in [("adopted", 1, NOW - 2_000), ("waiting", 2, NOW - 1_000)]
+        {
+            let (partial, expiry) = (inception + fresh, inception + lifetime);
+            text +=
+                &format!("key\t{state}\t{serial}\thmac-sha256\t{inception}\t{partial}\t{expiry}\n");
+        }
+    }
+    text
+}
+
+/// Loading and listing, by the length of the text. Both sides load the same
+/// table and list the same text.
+fn measure_listings() {
+    print_head("a listing, two keys for each pair");
+    for pairs in [1, 4, 16, 64] {
+        let text = listing_of(pairs);
+        let mut ours = Table::from_listing(text.as_bytes()).expect("it loads");
+        let theirs = second::listing::load(text.as_bytes()).expect("it loads");
+        assert_eq!(table_of(&ours), theirs);
+        let mut listed = vec![0; LISTING_OCTETS];
+        assert_eq!(ours.list_into(&mut listed), Ok(text.len()));
+        assert_eq!(listed[..text.len()], *text.as_bytes());
+        assert_eq!(
+            second::listing::list(&theirs, LISTING_OCTETS),
+            Ok(text.clone().into_bytes())
+        );
+        let times = in_turns(
+            || timed(|| black_box(&ours).list_into(&mut listed)),
+            || timed(|| second::listing::list(black_box(&theirs), LISTING_OCTETS)),
+        );
+        print_row(
+            &format!("list: {pairs} pairs, {} octets", text.len()),
+            times,
+        );
+        let times = in_turns(
+            || timed(|| ours.load(black_box(text.as_bytes()))),
+            || timed(|| second::listing::load(black_box(text.as_bytes()))),
+        );
+        print_row(
+            &format!("load: {pairs} pairs, {} octets", text.len()),
+            times,
+        );
+    }
+}
+
 fn main() {
     println!("Medians and quartiles, {MOST_TURNS} turns of the two sides; of a call that takes over 0.2 ms fewer, at least {LEAST_TURNS}.");
     warm_up();
@@ -528,6 +585,7 @@ fn main() {
     for offices in [Differ::Early, Differ::Late, Differ::Last] {
         measure_calls(offices);
     }
+    measure_listings();
     measure_queue();
     measure_reading();
     measure_worst();

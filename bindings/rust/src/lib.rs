@@ -3,8 +3,8 @@
 //! is done by proved code behind the C interface of `include/luffcringle.h`,
 //! which says more about each call than the notes here.
 //!
-//! - [`Table`] has the table's calls and the inquiries into it; [`asks`] says
-//!   what a TKEY request asks for.
+//! - [`Table`] has the table's calls, the inquiries into it, and itself as text;
+//!   [`asks`] says what a TKEY request asks for.
 //! - [`signing`] is for whoever calculates MACs.
 //! - [`resolver`] is for an office that renews its key.
 //!
@@ -13,6 +13,7 @@
 #![deny(unsafe_op_in_unsafe_fn)]
 
 mod inquiry;
+mod listing;
 pub mod resolver;
 pub mod signing;
 pub mod sys;
@@ -21,14 +22,15 @@ mod view;
 mod words;
 
 pub use inquiry::{asks, Asks, Mode, Moves, PairState};
+pub use listing::{Dropped, LoadError, Reason, LISTING_OCTETS};
 pub use sys::{Octets, Words};
 pub use table::{Answer, Given, Item, ReplyTsig, Span, Table};
 pub use table::{MOST_ITEMS, TABLE_OCTETS, TABLE_WORDS};
 pub use view::{Key, Keys, Pair, View};
 pub use words::{Algorithm, Name, Refusal, TsigError, Verdict};
 
-/// The version of the archive that is linked, as the header numbers it: 300 is
-/// 0.3.0.
+/// The version of the archive that is linked, as the header numbers it: 400 is
+/// 0.4.0.
 pub fn version() -> u64 {
     // SAFETY: nothing is lent.
     unsafe { sys::luffcringle_version() }

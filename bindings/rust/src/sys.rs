@@ -10,6 +10,8 @@ pub type Octets = [u8; 8192];
 pub type Told = [u64; 7];
 /// An item of a batch.
 pub type ItemWords = [u64; 9];
+/// The line beside LINE, and how many lines mending dropped.
+pub type MendingWords = [u64; 2];
 /// A pair as an inquiry shows it.
 pub type PairWords = [u64; 14];
 /// Made, adopted, ended, dropped.
@@ -101,6 +103,30 @@ extern "C" {
         answers: &mut [Told; 64],
         replies: *mut u8,
         replies_room: usize,
+    ) -> u64;
+
+    pub fn luffcringle_list(
+        words: &Words,
+        suffixes: &Octets,
+        text: *mut u8,
+        text_room: usize,
+        length: &mut u64,
+    ) -> u64;
+    pub fn luffcringle_load(
+        words: &mut Words,
+        suffixes: &mut Octets,
+        text: *const u8,
+        text_length: usize,
+        line: &mut u64,
+    ) -> u64;
+    pub fn luffcringle_mend(
+        words: &mut Words,
+        suffixes: &mut Octets,
+        text: *const u8,
+        text_length: usize,
+        named: *mut u64,
+        named_words: usize,
+        told: &mut MendingWords,
     ) -> u64;
 
     pub fn luffcringle_test(words: &Words, suffixes: &Octets) -> u64;

@@ -257,7 +257,8 @@ impl Table {
     }
 
     /// Close: the pair goes with its keys, and later pairs move down one number.
-    /// No name is made again, also where the suffix comes back.
+    /// No name is made again, also where the suffix comes back, until a table is
+    /// loaded.
     ///
     /// ```
     /// use luffcringle::{Algorithm, Refusal, Table};

@@ -184,7 +184,8 @@ pub enum Refusal {
     },
     /// The message's QR bit is 1.
     NotQuery,
-    /// The reply is longer than the lent buffer or than 65535 octets.
+    /// The reply is longer than the lent buffer or than 65535 octets; a listing
+    /// than the lent buffer.
     Room,
     /// The pair is not enrolled.
     NoPair,

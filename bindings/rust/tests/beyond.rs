@@ -4,8 +4,8 @@
 mod support;
 
 use luffcringle::{
-    Algorithm, Answer, Given, Item, Key, Keys, Octets, Refusal, Span, Table, TsigError, Verdict,
-    Words,
+    Algorithm, Answer, Given, Item, Key, Keys, LoadError, Octets, Refusal, Span, Table, TsigError,
+    Verdict, Words,
 };
 use luffcringle::{MOST_ITEMS, TABLE_OCTETS, TABLE_WORDS};
 use support::build::{key_record, name, Draft, FILL, RENEWALS};
@@ -93,7 +93,8 @@ fn is_left(before: &Table, after: &Table) -> bool {
     before.parts() == after.parts()
 }
 
-/// All seven calls that read a table refuse it with TABLE, and change nothing.
+/// All seven calls that read a table refuse it with TABLE, and so does list;
+/// none changes anything. A load takes its place all the same.
 fn refused_by_all(table: &Table, what: &str) {
     let message = Draft::ordinary().signed("1.a.example.", 1000);
     let mut lent = table.clone();
@@ -112,8 +113,14 @@ fn refused_by_all(table: &Table, what: &str) {
         let refused = lent.batch(&message, items, &mut reply);
         assert_eq!(refused, Err(Refusal::Table), "{what}");
     }
+    assert_eq!(lent.list(), Err(Refusal::Table), "{what}");
+    assert_eq!(lent.list_into(&mut reply), Err(Refusal::Table), "{what}");
     assert!(is_left(table, &lent), "{what}");
     assert_eq!(reply, [FILL; 512], "{what}");
+    assert_eq!(lent.load(b"clock\t1000\t0\n"), Err(LoadError::Table));
+    assert!(is_left(table, &lent), "{what}");
+    assert_eq!(lent.load(b"clock\t1000\t1\n"), Ok(()), "{what}");
+    assert_eq!(lent.view(), Table::new(1000).expect("a time").view());
 }
 
 // ---- What is no table ----

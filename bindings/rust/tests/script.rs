@@ -8,7 +8,7 @@ use luffcringle::{Algorithm, Answer, Given, Item, Refusal, Span, Table};
 use std::path::{Path, PathBuf};
 use support::words::{hex_or_none, number, octets, verdict_of};
 use support::{changed, enrol_numbered, issue_numbered, row, row_of, table_of, with_junk, Random};
-use support::{office_lines, signing_lines};
+use support::{listing_lines, office_lines, signing_lines};
 use support::{CLOCK, COUNT, FLOOR, LIFETIME, MAP, ROW_WORDS};
 
 const LONGEST_LINE: usize = 200_000;
@@ -46,9 +46,6 @@ impl Runner {
         if let Some(random) = &mut self.junk {
             self.table = with_junk(&self.table, random);
         }
-        if line == b"list" {
-            return listing(&self.table);
-        }
         let before = self.table.clone();
         let words = match std::str::from_utf8(line) {
             Ok(text) if line.len() <= LONGEST_LINE => text.split(' ').collect(),
@@ -58,8 +55,10 @@ impl Runner {
             check_batch_kept(self.line, &before, &self.table, &result);
             return printed_batch(result, &self.reply);
         }
-        let office = office_lines::line(&mut self.resolver, &words);
-        if let Some(printed) = office.or_else(|| signing_lines::line(&words)) {
+        let listing = listing_lines::line(&mut self.table, &words);
+        let office = || office_lines::line(&mut self.resolver, &words);
+        let other = listing.or_else(office);
+        if let Some(printed) = other.or_else(|| signing_lines::line(&words)) {
             return printed;
         }
         let result = self.call(&words);
@@ -237,12 +236,6 @@ fn is_of_pair(table: &Table, pair: u64, word: usize) -> bool {
     }
 }
 
-fn listing(table: &Table) -> String {
-    let mut out = Vec::new();
-    second::script::print_listing(&table_of(table), &mut out);
-    String::from_utf8(out).expect("plain text")
-}
-
 /// Both readers, line by line and table by table, ours with junk and without;
 /// answers with what all print.
 fn agree(script: &[u8]) -> String {
@@ -297,6 +290,104 @@ fn the_octets_under_a_signature() {
     as_expected("signing");
 }
 
+#[test]
+fn listings() {
+    as_expected("listing");
+}
+
+/// Pairs with distinct suffixes of 128 octets, from the last to the first, and
+/// with both keys: as long as a table's lines can be.
+fn long_listing(pairs: usize) -> String {
+    let (last, lifetime) = ((1 << 48) - 1, (1 << 31) - 1);
+    let mut text = format!("clock\t{last}\t{}\n", 1u64 << 32);
+    for pair in (0..pairs).rev() {
+        let label = [format!("3f{:04x}", 0x6161 + pair), "6f".repeat(61)].concat();
+        let suffix = [label, "3e".to_string(), "70".repeat(62), "00".to_string()].concat();
+        let next = 1u64 << 32;
+        text += &format!("pair\t{suffix}\t{next}\t{lifetime}\t{}\n", lifetime - 1);
+        for (state, serial) in [("adopted", next - 2), ("waiting", next - 1)] {
+            let inception: u64 = last - lifetime;
+            let times = format!("{inception}\t{}\t{last}", last - 1);
+            text += &format!("key\t{state}\t{serial}\thmac-sha512\t{times}\n");
+        }
+    }
+    text
+}
+
+/// Full tables and one pair more; and as many dropped lines as can be named, and
+/// one more.
+#[test]
+fn long_listings() {
+    let hex = |text: &str| hex_or_none(text.as_bytes());
+    let (full, over) = (long_listing(64), long_listing(65));
+    let (length, less) = (full.len(), full.len() - 1);
+    let blank = |lines: usize| hex(&(full.clone() + &"\n".repeat(lines)));
+    let script = [
+        format!("load {}\nlist\nlist {length}\nlist {less}", hex(&full)),
+        format!("mend 9 {}\nlist", hex(&over)),
+        format!("new 0\nload {}\nlist", hex(&over)),
+        format!("mend 5000 {}\nnew 0", blank(4096)),
+        format!("mend 5000 {}\nlist", blank(4097)),
+    ];
+    let printed = agree(script.join("\n").as_bytes());
+    let in_full = printed.matches(&full).count();
+    assert_eq!(in_full, 2);
+    for line in ["8 0", "0 0 3", "194 15", "1 0", "0 0 4096", "8 0 0"] {
+        assert!(printed.lines().any(|printed| printed == line), "{line}");
+    }
+}
+
+/// One edit of a listing's lines.
+fn damage(lines: &mut Vec<String>, random: &mut Random) {
+    const FIELDS: [&str; 8] = ["", "0", "1", "07", "4294967296", "key", "pair", "waiting"];
+    let (at, other) = (random.below(lines.len()), random.below(lines.len()));
+    match random.below(6) {
+        0 => drop(lines.remove(at)),
+        1 => lines.insert(at, lines[other].clone()),
+        2 => lines.swap(at, other),
+        3 => {
+            let suffix = format!("02{:04x}00", random.below(1 << 16));
+            lines.push(format!("pair\t{suffix}\t1\t9\t8"));
+        }
+        _ => {
+            let mut fields: Vec<&str> = lines[at].split('\t').collect();
+            let field = random.below(fields.len());
+            fields[field] = FIELDS[random.below(FIELDS.len())];
+            lines[at] = fields.join("\t");
+        }
+    }
+}
+
+/// Loads and mends of listings with one to three edits, each number and each
+/// reason among them.
+#[test]
+fn damaged_listings() {
+    let day = "clock\t1000\t2\n\
+        pair\t0161076578616d706c6500\t2\t600\t400\n\
+        key\tadopted\t1\thmac-sha256\t1000\t1400\t1600\n\
+        pair\t016200\t1\t9\t8\n";
+    let texts = [day.to_string(), long_listing(3), long_listing(64)];
+    let mut random = Random(11);
+    let mut script = Vec::new();
+    for round in 0..4000 {
+        let which = if round % 40 == 0 { 2 } else { random.below(2) };
+        let mut lines: Vec<String> = texts[which].lines().map(str::to_string).collect();
+        for _ in 0..=random.below(3) {
+            damage(&mut lines, &mut random);
+        }
+        let newline = if random.below(20) == 0 { "" } else { "\n" };
+        let text = hex_or_none((lines.join("\n") + newline).as_bytes());
+        script.push(format!("load {text}\nmend {} {text}", random.below(12)));
+    }
+    let printed = agree(script.join("\n").as_bytes());
+    let of_load = ["0 0", "1 0", "18 1", "18 3"];
+    let of_mend = ["0 0 0", "0 0 3", "1 0 0", "8 0 0", "18 1 0"];
+    let reasons = ["3 18", "3 1", "5 14", "194 15"];
+    for line in of_load.iter().chain(&of_mend).chain(&reasons) {
+        assert!(printed.lines().any(|printed| printed == *line), "{line}");
+    }
+}
+
 /// The script that LUFFCRINGLE_SCRIPT names, if it is set.
 #[test]
 fn the_named_script() {
@@ -316,4 +407,7 @@ fn lines_that_do_not_read() {
     agree(&longest);
     agree(&longest[..LONGEST_LINE - 1]);
     agree(b"batch 9\nbatch 9 - \nbatch 9 - 5 good 0 0 0 0\nbatch 9 - 5 good 0 0 0 0 bad 0\nbatch 9 - 5 good 0 0 0 0 bad 0 0 5\nbatch 9 - 5 Good 0 0 0 0 bad 0 0\nbatch 9 - 5 good 0 0 0 0 Bad 0 0\nbatch 9 - 5 good 0 0 0 0 bad 0 -\nbatch 9 -");
+    agree(
+        b"list \nlist -\nlist 1 1\nload\nload 6\nload - -\nmend 1\nmend - -\nmend 1 6\nmend 1 - -",
+    );
 }

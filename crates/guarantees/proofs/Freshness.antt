@@ -1,4 +1,4 @@
--- Demand 2: over any run from a new table. Assumes nothing.
+-- Demand 2: over any run from a new table, a loaded or a mended one. Assumes nothing.
 use mathlib.Core.Path.{_≡_, refl, sym, ap, ap₂, _∙_, subst}
 use mathlib.Core.Bool.{Bool, true, false}
 use mathlib.Core.Option.{Option, none, some, Option·none-ne-some, Option·some-injective}
@@ -31,13 +31,15 @@ use Rattle.model.specs.Replies.{granted, renewedReply, replyOf, grantedReply, s
 use Rattle.model.specs.Calls.{refusalAt, TIME, SIZE, OFFER, NOTQUERY, ROOM, Result, refusal, unchanged, timeFits, emptyTable, newTable, sizeOk, offerOk, roomFor, replyTo, replied, timeOf, signedBy, octetsOwner, ownerOf, holderAt, served, called, KEYREC}
 use Rattle.model.specs.Runs.{Operation, enrol, close, call, operated, operatedAll, Has, nextOf, suffixBy, suffixOf, keyRaised, keyMade, listed, namesMade, NoneSame, Distinct}
 use Rattle.model.proofs.CallLaws.{passes-first, message-size, message-offer, message-response, message-room, message-done, message-keyrec}
-use Rattle.guarantees.specs.Freshness.{after, madeBy, Ask, asks, Decides, fitServes, Granted, AtOnce, Demand2}
+use Rattle.guarantees.specs.Freshness.{after, Starts, fromNew, fromLoad, fromMend, Carries, Ask, asks, Decides, fitServes, Granted, AtOnce, RunsFrom, Demand2}
 use Rattle.model.proofs.Tests.{both, not-so, by-check}
 use Rattle.model.proofs.Decisions.{Fits, Grantable, Allows, allows}
 use Rattle.model.proofs.NameLaws.{same-sym, key-same}
-use Rattle.model.proofs.Rows.{at-member, set-has, same-next}
+use Rattle.model.proofs.Rows.{at-member, set-has, row-ok, same-next}
+use Rattle.model.proofs.Loads.{load-is}
+use Rattle.model.proofs.Mends.{mend-sound}
 use Rattle.guarantees.proofs.OneCall.{pass-rules}
-use Rattle.guarantees.proofs.Made.{Held, Event, New, new-name, raised, next-fits, next-row, owner-enrolled, call-made}
+use Rattle.guarantees.proofs.Made.{key-ok, Held, Event, New, new-name, raised, next-fits, next-row, owner-enrolled, call-made}
 use Rattle.guarantees.proofs.Enrolment.{enrol-made}
 use Rattle.guarantees.proofs.Closing.{close-made}
 
@@ -207,13 +209,33 @@ new-rules time =
     let h : time < 0xffff_8000_0000 = ltb-true _ _ e in
     both _ _ (lt-ltb time 0x1_0000_0000_0000 (omega arith)) refl
 
-every-key : (time : ℕ) (os : List Operation) (r : Row) (k : Key) → List·Memᴰ r (after time os .rows) → Has (r .pair .keys) k → List·Memᴰ (keyName (k .serial) (r .suffix)) (madeBy time os)
-every-key time os r k m h =
-    go (comes (newTable (emptyTable 0) time .table) os (new-rules time) (r .suffix) (k .serial) (k .expiry) (record { row = r; there = m; suffix-is = refl; key = k; has = h; serial-is = refl; expiry-is = refl }))
+carried : {t : Table} {name : List ℕ} (c : Carries t name) → Held t (c .row .suffix) (c .key .serial) (c .key .expiry)
+carried c = record { row = c .row; there = c .there; suffix-is = refl; key = c .key; has = c .has; serial-is = refl; expiry-is = refl }
+
+every-key : (t : Table) → tableRules t ≡ true → (os : List Operation) (name : List ℕ) → Carries (operatedAll t os) name → Carries t name ⊎ List·Memᴰ name (namesMade t os)
+every-key t r os name c = go (comes t os r (c .row .suffix) (c .key .serial) (c .key .expiry) (carried c))
   where
-    go : Held (newTable (emptyTable 0) time .table) (r .suffix) (k .serial) (k .expiry) ⊎ List·Memᴰ (keyName (k .serial) (r .suffix)) (madeBy time os) → List·Memᴰ (keyName (k .serial) (r .suffix)) (madeBy time os)
-    go (inl w) = absurd (List·Memᴰ·not-nil (rw (new-empty time) at (w .there)))
-    go (inr m) = m
+    go : Held t (c .row .suffix) (c .key .serial) (c .key .expiry) ⊎ List·Memᴰ (keyName (c .key .serial) (c .row .suffix)) (namesMade t os) → Carries t name ⊎ List·Memᴰ name (namesMade t os)
+    go (inl w) = inl (record { row = w .row; key = w .key; there = w .there; has = w .has; is = c .is ∙ ap₂ keyName (sym (w .serial-is)) (sym (w .suffix-is)) })
+    go (inr m) = inr (rw (c .is) m)
+
+-- The name of a key that a table holds is used.
+held-used : (t : Table) → tableRules t ≡ true → (name : List ℕ) → Carries t name → Used t name
+held-used t r name c =
+    let o = row-ok t r (c .there) in
+    let b = key-ok _ _ _ (c .row .pair .keys) (c .key) (o .keys-ok) (c .has) .below in
+    let n = next-row t r (c .there) in
+    record { suffix = c .row .suffix; serial = c .key .serial; is = c .is; fits = omega (arith, o .last, b); given = omega (arith, n, b) }
+
+-- ── Where a run starts ──────────────────────────────────────────────────────────────────────────────────────────────
+
+new-holds-none : (time : ℕ) (name : List ℕ) → ¬ Carries (newTable (emptyTable 0) time .table) name
+new-holds-none time name c = List·Memᴰ·not-nil (rw (new-empty time) at (c .there))
+
+starts-rules : (t : Table) → Starts t → tableRules t ≡ true
+starts-rules t (fromNew time e) = ap tableRules e ∙ new-rules time
+starts-rules t (fromLoad s e) = load-is s t e .rules
+starts-rules t (fromMend s ds e) = mend-sound s t ds e .rules
 
 -- ── A message call that is done ─────────────────────────────────────────────────────────────────────────────────────
 
@@ -419,23 +441,39 @@ module _ (t : Table) (q : Ask) (i : ℕ) (m : Message) where
       says = reply-then (Renews scheme g) x ∙ rw (grant .is-tkey, grant .is-key) refl;
     }
 
-never-before :
-    (time : ℕ) (os : List Operation) (q : Ask) (i : ℕ) (m : Message) (scheme : Scheme) (g : Algorithm) (x : Decides (after time os) q i m (Renews scheme g))
-    → NoneSame (renews (after time os) q i m scheme g x .name) (madeBy time os)
-unfolding operated renews keyName
-never-before time os q i m scheme g x =
-    let t = after time os in
-    let name = renews (after time os) q i m scheme g x .name in
-    fresh-none t name (madeBy time os)
-    (was-fresh t (called t (asks q) .table) name (rules-then t q i m scheme g x) (operation-new t (call (asks q)) name (raised-name t q i m scheme g x)))
-    (all-used (newTable (emptyTable 0) time .table) os (new-rules time))
+module _
+    (start : Table) (rules : tableRules start ≡ true) (os : List Operation) (q : Ask) (i : ℕ) (m : Message) (scheme : Scheme) (g : Algorithm)
+    (x : Decides (operatedAll start os) q i m (Renews scheme g)) where
+  abbrev reached : Table
+  reached = operatedAll start os
+
+  abbrev its-name : List ℕ
+  its-name = renews reached q i m scheme g x .name
+
+  was-new : Fresh reached its-name
+  unfolding operated renews keyName
+  was-new = was-fresh reached (called reached (asks q) .table) its-name (rules-then reached q i m scheme g x) (operation-new reached (call (asks q)) its-name (raised-name reached q i m scheme g x))
+
+  never-before : NoneSame its-name (namesMade start os)
+  never-before = fresh-none reached its-name (namesMade start os) was-new (all-used start os rules)
+
+  never-held : (held : List ℕ) → Carries start held → sameName held its-name ≡ false
+  never-held held c = never-same reached held its-name (used-on start os held rules (held-used start rules held c)) was-new
+
+runs-from : (t : Table) → tableRules t ≡ true → RunsFrom t
+runs-from t r = record {
+  no-name-twice = λ os. all-distinct t os r;
+  none-held = λ os held c. none-same t held (namesMade t os) (held-used t r held c) (all-fresh t os r);
+  every-key-made = every-key t r;
+  rules-kept = λ os. run-rules t os r;
+}
 
 pub demand2 : Demand2
 demand2 = record {
-  no-name-twice = λ time os. all-distinct (newTable (emptyTable 0) time .table) os (new-rules time);
-  every-key-made = every-key;
+  runs = λ t s. runs-from t (starts-rules t s);
+  new-none = new-holds-none;
   renewal-grants = renews;
-  renewal-new = never-before;
+  renewal-new = λ t s. never-before t (starts-rules t s);
+  renewal-not-held = λ t s. never-held t (starts-rules t s);
   adopts-at-once = adopts;
-  rules-kept = last-rules;
 }

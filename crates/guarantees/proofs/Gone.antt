@@ -31,7 +31,7 @@ use Rattle.model.specs.Judging.{notAuth, badKey, Holder, heldPair, heldSuffix, 
 use Rattle.model.specs.Calls.{breaks, refusalAt, DONE, SIZE, OFFER, FORMAT, NOTQUERY, ROOM, SPENT, TERM, Result, Step, refusal, unchanged, refuses, leaves, emptyTable, newTable, gate, Call, issue, timeOf, withoutRow, numberOwner, closed, closeOn, sizeOk, offerOk, roomFor, replyTo, replied, answered, messageStep, ownerOf, stepOf, holderAt, servedBy, served, called, KEYREC}
 use Rattle.model.specs.Runs.{Operation, close, call, operated, operatedAll, Has, nextOf, keyMade}
 use Rattle.model.proofs.Tests.{left, right, and-false, differs, by-check, by-place}
-use Rattle.model.proofs.RuleFacts.{KeyOk, KeysOk, PairOk}
+use Rattle.model.proofs.RuleFacts.{KeysOk, PairOk}
 use Rattle.model.proofs.NameLaws.{same-refl, same-sym, same-on, key-same}
 use Rattle.model.proofs.Rows.{at-member, set-has, none-member, all-distinct, row-ok, same-next}
 use Rattle.model.proofs.CallLaws.{same-row, refused-first, passes-first, issue-spent, issue-term, issue-done}
@@ -39,24 +39,13 @@ use Rattle.guarantees.specs.Refusals.{operationTime, movedBy}
 use Rattle.guarantees.specs.Freshness.{after, Ask, asks, Decides}
 use Rattle.guarantees.specs.Gone.{KeyIn, Goes, lost, expired, SignedWith, Nothing, GoneIsGone, Demand8}
 use Rattle.guarantees.proofs.OneCall.{pass-time, served-is}
-use Rattle.guarantees.proofs.Made.{Held, Event, next-fits, next-row, owner-enrolled}
+use Rattle.guarantees.proofs.Made.{key-ok, Held, Event, next-fits, next-row, owner-enrolled}
 use Rattle.guarantees.proofs.Refusals.{demand1}
 use Rattle.guarantees.proofs.Closing.{none-left}
 use Rattle.guarantees.proofs.Freshness.{operation-made, operation-new, run-rules, is-done, waiting-is, last-rules}
 use Rattle.model.specs.Replies.{secondOk}
 
 -- ── The keys of a table that keeps the rules ────────────────────────────────────────────────────────────────────────
-
-is-key : (l n c : ℕ) (k a : Key) → KeyOk l n c k → _≡_ {A = Option Key} (some k) (some a) → KeyOk l n c a
-is-key l n c k a o e = subst (KeyOk l n c) (Option·some-injective k a e) o
-
-key-ok : (l n c : ℕ) (ks : Keys) (k : Key) → KeysOk l n c ks → Has ks k → KeyOk l n c k
-key-ok l n c Empty k o (inl e) = absurd (Option·none-ne-some k e)
-key-ok l n c Empty k o (inr e) = absurd (Option·none-ne-some k e)
-key-ok l n c (Adopted a) k o (inl e) = is-key l n c a k o e
-key-ok l n c (Adopted a) k o (inr e) = absurd (Option·none-ne-some k e)
-key-ok l n c (Renewing a w) k o (inl e) = is-key l n c a k (o .0) e
-key-ok l n c (Renewing a w) k o (inr e) = is-key l n c w k (o .1) e
 
 -- two keys of a pair with one serial are one key
 one-key : (l n c : ℕ) (ks : Keys) (j k : Key) → KeysOk l n c ks → Has ks j → Has ks k → j .serial ≡ k .serial → j ≡ k

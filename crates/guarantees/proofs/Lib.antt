@@ -9,6 +9,7 @@ pub mod Closing
 pub mod Freshness
 pub mod Refusals
 pub mod Gone
+pub mod Listings
 pub mod Batches
 pub mod Orders
 pub mod Promises

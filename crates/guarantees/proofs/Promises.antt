@@ -30,6 +30,7 @@ use Rattle.guarantees.proofs.Orders.{never-back, swapped}
 use Rattle.guarantees.proofs.Refusals.{demand1}
 use Rattle.guarantees.proofs.Freshness.{last-rules, demand2}
 use Rattle.guarantees.proofs.Gone.{signed-with, demand8}
+use Rattle.guarantees.proofs.Listings.{demand7}
 use Rattle.guarantees.proofs.Runs.{demand3}
 use Rattle.guarantees.proofs.Batches.{batches-safe, demand3-batches}
 
@@ -175,6 +176,7 @@ promises = record {
   refusals = demand1;
   names = demand2;
   gone = demand8;
+  listings = demand7;
   isolation = demand3;
   batches-safe = batches-safe;
   batches = demand3-batches;

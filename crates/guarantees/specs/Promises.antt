@@ -1,5 +1,5 @@
 -- What is promised to the user, in one place. The proof is `promises` of proofs/Promises. What ties it to code are the contracts of the calls on a lent table
--- (operator, looking, server, batches): each is an equation with one of these definitions, on the table that the lent words and octets show. Assumes
+-- (operator, looking, server, batches, listing, loading): each is an equation with one of these definitions, on the table that the lent words and octets show. Assumes
 -- nothing.
 use mathlib.Core.Path.{_≡_}
 use mathlib.Core.Bool.{true}
@@ -19,6 +19,7 @@ use Rattle.model.specs.Batches.{Batched, batchOn, batch, allCalls, Roomy}
 use Rattle.guarantees.specs.Refusals.{Demand1}
 use Rattle.guarantees.specs.Freshness.{after, Ask, Decides, Demand2}
 use Rattle.guarantees.specs.Gone.{Goes, SignedWith, Demand8}
+use Rattle.guarantees.specs.Listings.{Demand7}
 use Rattle.guarantees.specs.Isolation.{Demand3, AtAnyTimes, InAnyOrder}
 use Rattle.guarantees.specs.Batches.{BatchesSafe, Demand3Batches, AtAnyRoom}
 use Rattle.guarantees.specs.Sample.{table, calls, lent, items}
@@ -47,6 +48,8 @@ pub record Promises : Type 0 where
   pub names : Demand2
   -- a key that is gone stays gone (02, CR 8)
   pub gone : Demand8
+  -- loading and listing undo each other, and mending keeps what keeps the rules (02, CR 7)
+  pub listings : Demand7
   -- the pairs are kept apart, over any run whose times never go back
   pub isolation : Demand3
   -- a batch is done as calls, or refused whole and changes nothing (02, CR 4); over any run with batches, each with a buffer that holds its replies together,

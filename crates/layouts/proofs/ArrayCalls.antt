@@ -2,7 +2,7 @@
 use mathlib.Core.Path.{_≡_, refl, sym, ap, ap₂, subst, _∙_}
 use mathlib.Core.Bool.{Bool, true, false, cond, _&&_}
 use mathlib.Core.Option.{Option, none, some}
-use mathlib.Core.List.{List, [], _∷_}
+use mathlib.Core.List.{List, [], _∷_, _++_, append-nil, append-assoc, map}
 use Prim.Native.Nat.{ℕ, _+_, _-_, _*_, _≤_, _<_}
 use native.Mathlib.Omega.{arith}
 use lib.Dec.{leb, ltb}
@@ -17,7 +17,7 @@ use Rattle.model.specs.Names.{algorithmNumbered}
 use Rattle.model.specs.Messages.{Message, readMessage}
 use Rattle.model.specs.Tsig.{Signature, unsigned, misplaced, wellPlaced, signature}
 use Rattle.model.specs.Pairs.{issued}
-use Rattle.model.specs.Tables.{Row, Table, noPair, rowAt, suffixAt, pairAt, withPair, namesOf, rowNamed, isNone, suffixOk, termOk, tableRules}
+use Rattle.model.specs.Tables.{Row, Table, every, noPair, rowAt, suffixAt, pairAt, withPair, namesOf, rowNamed, isNone, suffixOk, termOk, tableRules}
 use Rattle.model.specs.Checks.{check, checkSome, checkKnown}
 use Rattle.model.specs.Judging.{Holder, holder}
 use Rattle.model.specs.Calls.{TABLE, TIME, timeFits, emptyTable, newTable, NOPAIR, SPENT, NAME, TERM, TWIN, FULL, Outcome, Result, refusal, done, unchanged, gate, clockAt, withRow, firstSerial, freshPair, enrolled, enrolPassed, enrolOn, withoutRow, closed, closePassed, closeOn, sizeOk, Call, issue, revoke, look, message, timeOf, signedBy, readBy, octetsOwner, numberOwner, ownerOf, stepOf, holderAt, servedBy, served, passed, called}
@@ -25,12 +25,18 @@ use Rattle.model.specs.declared.BatchItem.{BatchItem}
 use Rattle.model.specs.Runs.{Operation, enrol, close, call, operated}
 use Rattle.model.specs.Batches.{BATCH, batchOk, itemCall, Batched, refusedWhole, behind, inTurn, batchOn}
 use Rattle.model.proofs.Buffers.{overlay-length}
-use Rattle.model.proofs.Rows.{few}
+use Rattle.model.specs.Loading as model
+use Rattle.model.specs.Loading.{Loaded, noLine, noTable, loaded, Dropped, Mended, noClock, noRule, noRoom, mended, mendIn}
+use Rattle.model.proofs.Rows.{few, tests}
+use Rattle.model.proofs.Loads.{load-is}
+use Rattle.model.proofs.Mends.{mend-sound, mend-in}
+use Rattle.rules.proofs.Laws.{suffix-short}
+use Rattle.loading.specs.Loads.{tableAfter, tableMended}
 use Rattle.model.proofs.Tests.{left, right}
 use Rattle.guarantees.proofs.OneCall.{served-is, pass-rules}
 use Rattle.guarantees.proofs.Made.{owner-enrolled}
-use Rattle.layouts.specs.Runs.{Act, new, on, batch, Ended, single, acted, Does, Ran}
-use Rattle.layouts.specs.Array.{Array, Sized, suffixIn, rowIn, rowsIn, viewOf, rowOf, putClock, putPair, putRow, putOut, signedIn, readIn, octetsIn, numberIn, ownerIn, holderIn, refusedIn, servedIn, calledIn, enrolledIn, enrolIn, closedIn, closeIn, newIn, operatedIn, refusedAll, turnIn, actedIn, runIn}
+use Rattle.layouts.specs.Runs.{Act, new, load, mend, on, batch, Ended, single, loadOutcome, mendOutcome, acted, Does, Ran}
+use Rattle.layouts.specs.Array.{Array, Sized, suffixIn, rowIn, rowsIn, viewOf, rowOf, putClock, putPair, putRow, putOut, signedIn, readIn, octetsIn, numberIn, ownerIn, holderIn, refusedIn, servedIn, calledIn, enrolledIn, enrolIn, closedIn, closeIn, newIn, operatedIn, refusedAll, turnIn, putRows, putTable, loadedIn, mendedIn, actedIn, runIn}
 use Rattle.layouts.proofs.ArrayLaws.{view-at, view-count, view-clock, view-put, view-row, closed-length, view-out, search-same, names-count}
 
 -- What an operation leaves, as it is shown.
@@ -273,6 +279,61 @@ sized-new : (a : Array) (time : ℕ) → Sized a → Sized (newIn a time .0)
 unfolding newIn
 sized-new a time z = checked a z TIME (timeFits time) _ λ _. record { octets = z .octets; sizes = z .sizes; slots = z .slots }
 
+-- ── Loading and mending ─────────────────────────────────────────────────────────────────────────────────────────────
+
+-- Rows put in one after another, each with a suffix of at most 128 octets.
+put-rows : (a : Array) (rs : List Row) → Sized a → a .count + length rs ≤ 64 → every suffixOk (map (λ r. r .suffix) rs) ≡ true
+    → (viewOf (putRows a rs) ≡ record { clock = a .clock; floor = a .floor; rows = viewOf a .rows ++ rs }) × Sized (putRows a rs)
+unfolding putRows putRow viewOf withRow
+put-rows a [] z h e = (ap {B = Table} (λ (l : List Row). record { clock = a .clock; floor = a .floor; rows = l }) (sym (append-nil (viewOf a .rows))), z)
+put-rows a (r ∷ rs) z h e =
+    let ok = suffix-short (r .suffix) (left (suffixOk (r .suffix)) (every suffixOk (map (λ r. r .suffix) rs)) e) in
+    let rest = right (suffixOk (r .suffix)) (every suffixOk (map (λ r. r .suffix) rs)) e in
+    let room : a .count < 64 = omega (arith, h) in
+    let more = put-rows (putRow a (r .suffix) (r .pair)) rs (sized-row a (r .suffix) (r .pair) room ok z) (omega (arith, h)) rest in
+    let one = view-row a (r .suffix) (r .pair) z room ok in (
+      more .0
+          ∙ ap {B = Table} (λ (t : Table). record { clock = a .clock; floor = a .floor; rows = t .rows ++ rs }) one
+          ∙ ap {B = Table} (λ (l : List Row). record { clock = a .clock; floor = a .floor; rows = l }) (append-assoc (viewOf a .rows) (r ∷ []) rs),
+      more .1,
+    )
+
+-- A table that keeps the rules.
+put-table : (a : Array) (t : Table) → Sized a → tableRules t ≡ true → (viewOf (putTable a t) ≡ t) × Sized (putTable a t)
+unfolding putTable viewOf rowsIn namesOf
+put-table a t z rule =
+    let u = tests t rule in
+    let few : length (t .rows) ≤ 64 = leb-true (length (t .rows)) 64 (u .0) in
+    put-rows (record { clock = t .clock; floor = t .floor; count = 0; suffixes = a .suffixes; lengths = a .lengths; pairs = a .pairs }) (t .rows)
+    (record { octets = z .octets; sizes = z .sizes; slots = z .slots }) (omega (arith, few)) (u .1 .1 .0)
+
+module _ (a : Array) (z : Sized a) (text : List ℕ) where
+  loaded-view : (l : Loaded) → model.load text ≡ l → viewOf (loadedIn a l) ≡ tableAfter (viewOf a) l
+  loaded-view (noLine n) e = refl
+  loaded-view noTable e = refl
+  loaded-view (loaded t) e = put-table a t z (load-is text t e .rules) .0
+
+  sized-loaded : (l : Loaded) → model.load text ≡ l → Sized (loadedIn a l)
+  sized-loaded (noLine n) e = z
+  sized-loaded noTable e = z
+  sized-loaded (loaded t) e = put-table a t z (load-is text t e .rules) .1
+
+  -- what is mended in some room is mended
+  in-room : (room : ℕ) (t : Table) (ds : List Dropped) → mendIn room text ≡ mended t ds → tableRules t ≡ true
+  in-room room t ds e = mend-sound text t ds (mend-in room text t ds e .0) .rules
+
+  mended-view : (room : ℕ) (m : Mended) → mendIn room text ≡ m → viewOf (mendedIn a m) ≡ tableMended (viewOf a) m
+  mended-view room noClock e = refl
+  mended-view room noRule e = refl
+  mended-view room noRoom e = refl
+  mended-view room (mended t ds) e = put-table a t z (in-room room t ds e) .0
+
+  sized-mended : (room : ℕ) (m : Mended) → mendIn room text ≡ m → Sized (mendedIn a m)
+  sized-mended room noClock e = z
+  sized-mended room noRule e = z
+  sized-mended room noRoom e = z
+  sized-mended room (mended t ds) e = put-table a t z (in-room room t ds e) .1
+
 -- ── Batches, and every act ──────────────────────────────────────────────────────────────────────────────────────────
 
 abbrev batched : Array × Ended → Batched
@@ -309,12 +370,16 @@ module _ (octets : List ℕ) (a : Array) (room : ℕ) (xs : List BatchItem) (z :
 does : (a : Array) → Sized a → (o : Act) → Does viewOf a o (actedIn a o .0) (actedIn a o .1)
 unfolding acted actedIn batchOn
 does a z (new time) = ap single (news a z time)
+does a z (load text) = ap (λ (t : Table). single (record { table = t; outcome = loadOutcome (model.load text) })) (sym (loaded-view a z text (model.load text) refl))
+does a z (mend room text) = ap (λ (t : Table). single (record { table = t; outcome = mendOutcome (mendIn room text) })) (sym (mended-view a z text room (mendIn room text) refl))
 does a z (on o) = ap single (operates a z o)
 does a z (batch octets xs room) = batch-same octets a room xs z (tableRules (viewOf a)) (batchOk octets xs)
 
 sized-then : (a : Array) (o : Act) → Sized a → Sized (actedIn a o .0)
 unfolding actedIn
 sized-then a (new time) z = sized-new a time z
+sized-then a (load text) z = sized-loaded a z text (model.load text) refl
+sized-then a (mend room text) z = sized-mended a z text room (mendIn room text) refl
 sized-then a (on o) z = sized-after a o z
 sized-then a (batch octets xs room) z = sized-batch octets a room xs z (tableRules (viewOf a)) (batchOk octets xs)
 

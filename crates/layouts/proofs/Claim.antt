@@ -1,15 +1,18 @@
 -- 02, CR 11: runs from tables that list alike, on any two layouts. Assumes nothing.
-use Prim.Native.Nat.{ℕ, suc}
-use mathlib.Core.Bool.{false}
+use Prim.Native.Nat.{ℕ, suc, _/_}
+use mathlib.Core.Bool.{Bool, true, false}
 use mathlib.Core.List.{List, [], _∷_}
 use mathlib.Core.Option.{Option, some}
 use mathlib.Core.Path.{_≡_, refl, sym, ap, ap₂, _∙_}
 use lib.ListN.{length}
 use Rattle.model.specs.Tables.{Table, tableRules}
-use Rattle.model.specs.Calls.{DONE, TABLE, Result, unchanged, gate, enrolPassed, enrolOn, closePassed, closeOn, timeOf, passed, called, issueOn, revokeOn, lookOn, messageOn, bufferAfter}
+use Rattle.model.specs.Octets.{put}
+use Rattle.model.specs.Calls.{DONE, TABLE, refusalAt, Result, unchanged, gate, enrolPassed, enrolOn, closePassed, closeOn, timeOf, passed, called, issueOn, revokeOn, lookOn, messageOn, bufferAfter}
 use Rattle.model.specs.Runs.{Operation, enrol, close, call, operated}
 use Rattle.model.specs.Batches.{Batched, batchOn, batchBuffer}
 use Rattle.model.specs.Listing.{listing}
+use Rattle.model.specs.Loading as model
+use Rattle.model.specs.Loading.{Mended, mendIn, mendedIn}
 use Rattle.model.proofs.Listings.{listing-inj}
 use native.Mathlib.Omega.{arith}
 use Rattle.model.proofs.Tests.{not-so}
@@ -18,9 +21,14 @@ use Rattle.store.proofs.Laid.{laid, ascends}
 use Rattle.operator.proofs.Laws.{new-in}
 use Rattle.checking.proofs.Laws.{layout-words, layout-octets}
 use Rattle.ruling.proofs.Laws.{broken-layout}
-use Rattle.layouts.specs.Runs.{Act, Ended, single, acted, Does, Ran, seen}
+use Rattle.loading.specs.declared.Ended as loading
+use Rattle.loading.specs.declared.Mending.{Mending}
+use Rattle.loading.specs.Walk.{namedWords}
+use Rattle.loading.specs.Loads.{lends, loadInto, endOf, tableAfter, Loads, mendInto, droppedBy, tableMended, mendsAs, mendEnd, Mends}
+use Rattle.loading.proofs.Ends.{lends-both}
+use Rattle.layouts.specs.Runs.{Act, load, mend, Ended, alone, single, acted, Does, Ran, seen}
 use Rattle.layouts.specs.Array.{viewOf, runIn}
-use Rattle.layouts.specs.Claim.{Lent, shownIn, Contracts, Covered, Claim}
+use Rattle.layouts.specs.Claim.{Lent, shownIn, MendDone, Contracts, Covered, Claim}
 use Rattle.layouts.proofs.ArrayCalls.{ran}
 
 -- ── Any two layouts ─────────────────────────────────────────────────────────────────────────────────────────────────
@@ -67,10 +75,34 @@ covered = record {
 
 -- ── The contracts ───────────────────────────────────────────────────────────────────────────────────────────────────
 
+loads-do : (text w s w′ s′ : List ℕ) (e : loading.Ended) → lends w s ≡ true → Loads text w s w′ s′ e → Does shownIn (w, s) (load text) (w′, s′) (alone (refusalAt (e .number) (e .line)))
+unfolding shownIn acted
+loads-do text w s w′ s′ e fits v =
+    let is : loadInto (lends w s) (model.load text) ≡ model.load text = ap (λ (b : Bool). loadInto b (model.load text)) fits in
+    ap₂ {C = Batched} (λ (t : Table) (x : loading.Ended). record { number = DONE; table = t; outcomes = refusalAt (x .number) (x .line) ∷ [] })
+    (sym (v .table ∙ ap (tableAfter (tableOf w s)) is))
+    (sym (v .says ∙ ap endOf is))
+
+mends-do : (text w s named w′ s′ named′ : List ℕ) (m : Mending) → lends w s ≡ true → Mends text w s named w′ s′ named′ m → MendDone text w s named w′ s′ named′ m
+unfolding shownIn acted mendIn
+mends-do text w s named w′ s′ named′ m fits v =
+    let room = length named / 2 in
+    let is : mendsAs text w s named ≡ mendIn room text = ap (λ (b : Bool). mendedIn room (mendInto b (model.mend text))) fits in
+    record {
+      words = namedWords (droppedBy (mendIn room text));
+      does =
+          ap₂ {C = Batched} (λ (t : Table) (x : Mending). record { number = DONE; table = t; outcomes = record { answer = refusalAt (x .number) (x .line) .answer; reply = namedWords (droppedBy (mendIn room text)) } ∷ [] })
+          (sym (v .table ∙ ap (tableMended (tableOf w s)) is))
+          (sym (v .says ∙ ap mendEnd is));
+      names = v .names ∙ ap (λ (x : Mended). put (namedWords (droppedBy x)) named) is;
+    }
+
 contracts : Contracts
 unfolding shownIn acted operated issueOn revokeOn lookOn messageOn bufferAfter batchBuffer
 contracts = record {
   news = λ time w s w′ a long wide v. ap single (sym (v .says ∙ new-in time w s long wide (tableOf w s)));
+  loads = λ text w s w′ s′ e long wide v. loads-do text w s w′ s′ e (lends-both w s long wide) v;
+  mends = λ text w s named w′ s′ named′ m long wide v. mends-do text w s named w′ s′ named′ m (lends-both w s long wide) v;
   enrols = λ time suffix lifetime fresh algorithm w s w′ s′ a v. ap single (sym (v .says));
   closes = λ time pair w s w′ s′ a v. ap single (sym (v .says));
   issues = λ time pair algorithm w s w′ s′ a v. ap single (sym (v .says));

@@ -1,6 +1,6 @@
 -- The layout before 02, CR 11: rows in order of enrolment, their suffixes, lengths and pairs in three arrays, and found by comparing one row after another. It
 -- is here for the claim alone: no code has it any more. Its TABLE is the test of the table that it shows. Closing (02, CR 9), which came after it, is what that
--- layout would do: later rows move down in each array. Assumes nothing.
+-- layout would do: later rows move down in each array; and so are loading and mending (02, CR 7): rows put in one after another. Assumes nothing.
 use Prim.Native.Nat.{ℕ, zero, suc, _+_, _-_, _*_, max}
 use mathlib.Core.Path.{_≡_}
 use mathlib.Core.Bool.{Bool, true, false, cond, _&&_}
@@ -21,7 +21,9 @@ use Rattle.model.specs.Judging.{Holder, nobody, holder}
 use Rattle.model.specs.Calls.{DONE, TABLE, TIME, NOPAIR, SPENT, NAME, TERM, TWIN, FULL, Outcome, refusal, done, timeFits, gate, freshPair, sizeOk, Call, issue, revoke, look, message, timeOf, stepOf}
 use Rattle.model.specs.Runs.{Operation, enrol, close, call}
 use Rattle.model.specs.Batches.{BATCH, batchOk, itemCall}
-use Rattle.layouts.specs.Runs.{Act, new, on, batch, Ended, alone}
+use Rattle.model.specs.Loading as model
+use Rattle.model.specs.Loading.{Loaded, noLine, noTable, loaded, Mended, noClock, noRule, noRoom, mended, mendIn}
+use Rattle.layouts.specs.Runs.{Act, new, load, mend, on, batch, Ended, alone, loadOutcome, mendOutcome}
 
 pub record Array : Type 0 where
   pub clock : ℕ
@@ -182,8 +184,29 @@ turnIn octets a room (x ∷ xs) =
 abbrev pub only : Array × Outcome → Array × Ended
 only r = (r .0, alone (r .1))
 
+-- A table in the place of the one that is there.
+unfoldable pub putRows : Array → List Row → Array
+putRows a [] = a
+putRows a (r ∷ rs) = putRows (putRow a (r .suffix) (r .pair)) rs
+
+unfoldable pub putTable : Array → Table → Array
+putTable a t = putRows (record { clock = t .clock; floor = t .floor; count = 0; suffixes = a .suffixes; lengths = a .lengths; pairs = a .pairs }) (t .rows)
+
+abbrev pub loadedIn : Array → Loaded → Array
+loadedIn a (noLine n) = a
+loadedIn a noTable = a
+loadedIn a (loaded t) = putTable a t
+
+abbrev pub mendedIn : Array → Mended → Array
+mendedIn a noClock = a
+mendedIn a noRule = a
+mendedIn a noRoom = a
+mendedIn a (mended t ds) = putTable a t
+
 unfoldable pub actedIn : Array → Act → Array × Ended
 actedIn a (new time) = only (newIn a time)
+actedIn a (load text) = only (loadedIn a (model.load text), loadOutcome (model.load text))
+actedIn a (mend room text) = only (mendedIn a (mendIn room text), mendOutcome (mendIn room text))
 actedIn a (on o) = only (operatedIn a o)
 actedIn a (batch octets xs room) =
     check (refusedAll a) TABLE (tableRules (viewOf a)) (check (refusedAll a) BATCH (batchOk octets xs) (turnIn octets a room xs))

@@ -1,6 +1,6 @@
 -- 02, CR 11: "Prove every reply, number and listing equal to the old layout's for any run, .. from tables that list alike. TABLE now also covers the order and
--- the map." Closing (02, CR 9) is among the acts; loading joins with its request. The proof is `claim` of proofs/Claim. Assumes nothing.
-use Prim.Native.Nat.{ℕ, suc, _<_}
+-- the map." Closing (02, CR 9), loading and mending (02, CR 7) are among the acts. The proof is `claim` of proofs/Claim. Assumes nothing.
+use Prim.Native.Nat.{ℕ, suc, _/_, _<_}
 use mathlib.Core.Bool.{Bool, false}
 use mathlib.Core.Option.{Option}
 use mathlib.Core.List.{List, []}
@@ -11,7 +11,7 @@ use Rattle.model.specs.declared.BatchItem.{BatchItem}
 use Rattle.model.specs.Octets.{put}
 use Rattle.model.specs.Tables.{Table}
 use Rattle.model.specs.Judging.{Given}
-use Rattle.model.specs.Calls.{TABLE, Outcome, unchanged, issue, revoke, look, message, enrolOn, issueOn, revokeOn, lookOn, messageOn, closeOn}
+use Rattle.model.specs.Calls.{TABLE, refusalAt, Outcome, unchanged, issue, revoke, look, message, enrolOn, issueOn, revokeOn, lookOn, messageOn, closeOn}
 use Rattle.model.specs.Runs.{Operation, enrol, close, call, operated}
 use Rattle.model.specs.Batches.{refusedWhole, batchOn, repliesOf}
 use Rattle.model.specs.Listing.{listing}
@@ -19,10 +19,13 @@ use Rattle.ordering.specs.declared.Ordering.the-variants.{Less}
 use Rattle.ordering.specs.Order.{orderOf}
 use Rattle.store.specs.Layout.{countOf, placeOf, rowIn, suffixIn, layoutRule, tableOf}
 use Rattle.operator.specs.Made.{Made}
+use Rattle.loading.specs.declared.Ended as loading
+use Rattle.loading.specs.declared.Mending.{Mending}
+use Rattle.loading.specs.Loads.{Loads, Mends}
 use Rattle.outcomes.specs.Ends.{shown, Served}
 use Rattle.server.specs.Serve.{Answered}
 use Rattle.batches.specs.Batched.{answersOf, BatchShows}
-use Rattle.layouts.specs.Runs.{Act, new, on, batch, Ended, alone, Does, Ran, seen}
+use Rattle.layouts.specs.Runs.{Act, new, load, mend, on, batch, Ended, alone, Does, Ran, seen}
 use Rattle.layouts.specs.Array.{Array, Sized, viewOf, runIn}
 
 -- The words and the octets, and the table that they show.
@@ -39,6 +42,12 @@ pub record BatchDone (octets : List ℕ) (xs : List BatchItem) (w s w′ a a′ 
   pub answers : a′ ≡ put (answersOf outcomes) a
   pub replies : b′ ≡ put (repliesOf outcomes) b
 
+-- A mending that ended so.
+pub record MendDone (text w s named w′ s′ named′ : List ℕ) (m : Mending) : Type 0 where
+  pub words : List ℕ
+  pub does : Does shownIn (w, s) (mend (length named / 2) text) (w′, s′) (alone (record { answer = refusalAt (m .number) (m .line) .answer; reply = words }))
+  pub names : named′ ≡ put words named
+
 -- A message call that was answered so.
 pub record Messaged (g : Given) (m w s w′ b b′ : List ℕ) (a : Answer) : Type 0 where
   pub outcome : Outcome
@@ -52,6 +61,15 @@ pub record Contracts : Type 1 where
       (time : ℕ) (w s w′ : List ℕ) (a : Answer) → length w ≡ 1091 → length s ≡ 8192
       → Made time w s w′ a
       → Does shownIn (w, s) (new time) (w′, s) (alone (record { answer = a; reply = [] }))
+  pub loads :
+      (text w s w′ s′ : List ℕ) (e : loading.Ended) → length w ≡ 1091 → length s ≡ 8192
+      → Loads text w s w′ s′ e
+      → Does shownIn (w, s) (load text) (w′, s′) (alone (refusalAt (e .number) (e .line)))
+  -- a mending's reply are the words that name the dropped lines
+  pub mends :
+      (text w s named w′ s′ named′ : List ℕ) (m : Mending) → length w ≡ 1091 → length s ≡ 8192
+      → Mends text w s named w′ s′ named′ m
+      → MendDone text w s named w′ s′ named′ m
   pub enrols :
       (time : ℕ) (suffix : List ℕ) (lifetime fresh algorithm : ℕ) (w s w′ s′ : List ℕ) (a : Answer)
       → Served (λ t. enrolOn t time suffix lifetime fresh algorithm) w s w′ s′ a

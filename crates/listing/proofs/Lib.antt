@@ -1,2 +1,3 @@
 -- The laws that proofs of this crate cite.
 pub mod Laws
+pub mod Sizes

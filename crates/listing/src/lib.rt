@@ -2,22 +2,27 @@
 use model::Key;
 use model::Keys;
 use model::Pair;
+ghost use mathlib.Core.Path.{_≡_};
+ghost use mathlib.Core.Bool.{true};
 ghost use mathlib.Core.List.{[], _∷_, _++_};
 ghost use Prim.Native.Nat.{_+_, _*_, _≤_};
+ghost use lib.Dec.{leb};
 ghost use lib.ListN.{length};
+ghost use Rattle.model.specs.Tables.{tableRules};
 ghost use Rattle.model.specs.Text.{numeral, partedBy};
-ghost use Rattle.model.specs.Listing.{clockLine, pairLine, keyLine, keyLines};
+ghost use Rattle.model.specs.Listing.{clockLine, pairLine, keyLine, keyLines, listing};
 ghost use Rattle.octets.specs.Wrote.{Wrote};
 ghost use Rattle.store.specs.Layout.{tableOf};
 ghost use Rattle.listing.specs.Listed.{Lists};
 
-// The listing's text, so many octets at the front of the buffer; or the table breaks a rule.
+// The listing's text, so many octets at the front of the buffer; or the table breaks a rule; or the listing is longer than the buffer.
 pub enum Listed {
     Text(usize),
     Broken,
+    Long,
 }
 
-pub fn clock_line(buf: &mut [u8], clock: u64, floor: u64) -> usize
+fn clock_line(buf: &mut [u8], clock: u64, floor: u64) -> usize
     requires { ⌜ 48 ≤ length (now buf) ⌝ }
     ensures { λ r. ⌜ (r ≤ 48) × Wrote (clockLine clock floor) 0 (now (buf .entry)) (now (buf .exit)) r ⌝ }
 {
@@ -75,7 +80,7 @@ fn key_lines(buf: &mut [u8], at: usize, keys: Keys) -> usize
 }
 
 // A pair's line and those of its keys.
-pub fn row_lines(buf: &mut [u8], at: usize, suffix: &[u8], p: Pair) -> usize
+fn row_lines(buf: &mut [u8], at: usize, suffix: &[u8], p: Pair) -> usize
     requires { ⌜ (at + 541 ≤ length (now buf)) × (length (now suffix) ≤ 128) ⌝ }
     ensures { λ r. ⌜ (r ≤ at + 541) × Wrote (pairLine (now (suffix .entry)) p ++ keyLines (p .keys)) at (now (buf .entry)) (now (buf .exit)) r ⌝ }
 {
@@ -84,22 +89,97 @@ pub fn row_lines(buf: &mut [u8], at: usize, suffix: &[u8], p: Pair) -> usize
     key_lines(buf, next, keys)
 }
 
-// Lists the table at the front of the buffer. One that keeps the rules has at most 64 pairs: 48 + 64 * 541 octets.
-pub fn list(words: &[u64], suffixes: &[u8], buf: &mut [u8]) -> Listed
-    requires { ⌜ 40000 ≤ length (now buf) ⌝ }
-    ensures { λ r. ⌜ Lists (tableOf (now (words .entry)) (now (suffixes .entry))) (now (buf .entry)) (now (buf .exit)) r ⌝ }
+// ── A buffer of any length ──────────────────────────────────────────────────────────────────────────────────────────
+
+// The writers above ask for the room of the longest lines that there are. Made in a scratch buffer and copied, lines need no octet more than they have.
+fn clock_into(buf: &mut [u8], clock: u64, floor: u64) -> usize
+    requires { ⌜ length (clockLine clock floor) ≤ length (now buf) ⌝ }
+    ensures { λ r. ⌜ Wrote (clockLine clock floor) 0 (now (buf .entry)) (now (buf .exit)) r ⌝ }
 {
-    if !ruling::rules_ok(words, suffixes) {
-        return Listed::Broken;
+    let mut scratch = [0u8; 48];
+    let n = clock_line(&mut scratch[..], clock, floor);
+    octets::part_into(buf, 0, &scratch[..], 0, n)
+}
+
+fn row_into(buf: &mut [u8], at: usize, suffix: &[u8], p: Pair) -> usize
+    requires { ⌜ (at + length (pairLine (now suffix) p ++ keyLines (p .keys)) ≤ length (now buf)) × (length (now suffix) ≤ 128) ⌝ }
+    ensures { λ r. ⌜ Wrote (pairLine (now (suffix .entry)) p ++ keyLines (p .keys)) at (now (buf .entry)) (now (buf .exit)) r ⌝ }
+{
+    let mut scratch = [0u8; 541];
+    let n = row_lines(&mut scratch[..], 0, suffix, p);
+    octets::part_into(buf, at, &scratch[..], 0, n)
+}
+
+fn clock_size(clock: u64, floor: u64) -> usize
+    ensures { λ r. ⌜ (r ≤ 48) × (r ≡ length (clockLine clock floor)) ⌝ }
+{
+    let mut scratch = [0u8; 48];
+    clock_line(&mut scratch[..], clock, floor)
+}
+
+fn row_size(suffix: &[u8], p: Pair) -> usize
+    requires { ⌜ length (now suffix) ≤ 128 ⌝ }
+    ensures { λ r. ⌜ (r ≤ 541) × (r ≡ length (pairLine (now (suffix .entry)) p ++ keyLines (p .keys))) ⌝ }
+{
+    let mut scratch = [0u8; 541];
+    row_lines(&mut scratch[..], 0, suffix, p)
+}
+
+// How long the listing is, of a table that keeps the rules.
+fn size(words: &[u64], suffixes: &[u8]) -> usize
+    requires { ⌜ tableRules (tableOf (now words) (now suffixes)) ≡ true ⌝ }
+    ensures { λ r. ⌜ r ≡ length (listing (tableOf (now (words .entry)) (now (suffixes .entry)))) ⌝ }
+{
+    let mut total = clock_size(words[0], words[2]);
+    let n = words[1] as usize;
+    let mut i = 0;
+    while i < n {
+        let p = outcomes::pair_of(words, suffixes, i);
+        let suffix = outcomes::suffix_of(words, suffixes, i);
+        total += row_size(suffix, p);
+        i += 1;
     }
-    let mut next = clock_line(buf, words[0], words[2]);
+    total
+}
+
+// Where the longest listing of as many pairs has room, this one is not measured.
+fn has_room(words: &[u64], suffixes: &[u8], room: usize) -> bool
+    requires { ⌜ tableRules (tableOf (now words) (now suffixes)) ≡ true ⌝ }
+    ensures { λ r. ⌜ r ≡ leb (length (listing (tableOf (now (words .entry)) (now (suffixes .entry))))) room ⌝ }
+{
+    let n = words[1] as usize;
+    if 48 + 541 * n <= room {
+        return true;
+    }
+    size(words, suffixes) <= room
+}
+
+// The listing of a table that keeps the rules, where there is room for it.
+fn list_into(words: &[u64], suffixes: &[u8], buf: &mut [u8]) -> usize
+    requires { ⌜ (tableRules (tableOf (now words) (now suffixes)) ≡ true) × (length (listing (tableOf (now words) (now suffixes))) ≤ length (now buf)) ⌝ }
+    ensures { λ r. ⌜ Wrote (listing (tableOf (now (words .entry)) (now (suffixes .entry)))) 0 (now (buf .entry)) (now (buf .exit)) r ⌝ }
+{
+    let mut next = clock_into(buf, words[0], words[2]);
     let n = words[1] as usize;
     let mut i: usize = 0;
     while i < n {
         let p = outcomes::pair_of(words, suffixes, i);
         let suffix = outcomes::suffix_of(words, suffixes, i);
-        next = row_lines(buf, next, suffix, p);
+        next = row_into(buf, next, suffix, p);
         i += 1;
     }
-    Listed::Text(next)
+    next
+}
+
+// Lists the table at the front of the buffer; a refusal leaves every octet of it.
+pub fn list(words: &[u64], suffixes: &[u8], buf: &mut [u8]) -> Listed
+    ensures { λ r. ⌜ Lists (tableOf (now (words .entry)) (now (suffixes .entry))) (now (buf .entry)) (now (buf .exit)) r ⌝ }
+{
+    if !ruling::rules_ok(words, suffixes) {
+        return Listed::Broken;
+    }
+    if !has_room(words, suffixes, buf.len()) {
+        return Listed::Long;
+    }
+    Listed::Text(list_into(words, suffixes, buf))
 }

@@ -3,7 +3,7 @@ use Prim.Native.Nat.{ℕ, _+_, _-_, _≤_, _<_}
 use mathlib.Core.Bool.{Bool, true, false, _&&_}
 use mathlib.Core.Path.{_≡_, refl, sym, ap, _∙_}
 use mathlib.Core.Option.{none, some}
-use mathlib.Core.List.{List, [], _∷_}
+use mathlib.Core.List.{List}
 use native.Mathlib.Omega.{arith}
 use lib.Dec.{leb, ltb, eqb}
 use lib.ListN.{length, length-map}
@@ -13,12 +13,12 @@ use Rattle.model.specs.declared.Named.the-variants.{Known, Unknown}
 use Rattle.model.specs.declared.Answer.{Answer}
 use Rattle.model.specs.declared.Key.{Key}
 use Rattle.model.specs.declared.Pair.{Pair}
-use Rattle.model.specs.Names.{wireName, algorithmNumbered}
+use Rattle.model.specs.Names.{algorithmNumbered}
 use Rattle.model.specs.Pairs.{issued, revoked}
 use Rattle.model.specs.Tables.{Table, namesOf, pairAt, withClock, withPair, suffixOk, termOk, serialRule, keysRule, pairRule}
 use Rattle.model.specs.Judging.{adoptedOf}
-use Rattle.model.specs.Calls.{DONE, TABLE, TIME, NOPAIR, NOKEY, SPENT, NAME, TERM, TWIN, FULL, Result, refusalAt, refusal, done, unchanged, timeFits, gate, newTable, withRow, firstSerial, freshPair, enrolled, enrolPassed, enrolOn, withoutRow, closed, closePassed, closeOn, numberOwner, issue, revoke, served}
-use Rattle.model.proofs.Tests.{each, left, right, and-false}
+use Rattle.model.specs.Calls.{DONE, TABLE, TIME, NOPAIR, NOKEY, SPENT, NAME, TERM, TWIN, FULL, Result, refusalAt, refusal, done, unchanged, timeFits, gate, emptyTable, newTable, withRow, firstSerial, freshPair, enrolled, enrolPassed, enrolOn, withoutRow, closed, closePassed, closeOn, numberOwner, issue, revoke, served}
+use Rattle.model.proofs.Tests.{left, right, and-false}
 use Rattle.model.proofs.CallLaws.{number-none, number-some, issue-nopair, issue-spent, issue-term, issue-done, revoke-nopair, revoke-empty, revoke-expired, revoke-done, enrol-name, enrol-term, enrol-algorithm, enrol-twin, enrol-full, enrol-spent, enrol-done}
 use Rattle.pairs.specs.declared.Held.{Held}
 use Rattle.pairs.specs.declared.Held.the-variants.{Nothing, Is}
@@ -26,6 +26,7 @@ use Rattle.pairs.specs.Held.{keyOf}
 use Rattle.pairs.specs.Fits.{Fits, issuedIn}
 use Rattle.pairs.proofs.Fit.{issued-fits}
 use Rattle.pairs.proofs.Fit.{rule-fits}
+use Rattle.rules.proofs.Laws.{suffix-long, suffix-short}
 use Rattle.store.proofs.Laid.{shown as shown-laid}
 use Rattle.store.specs.Layout.{floorOf, countOf, laidTable, layoutRule, tableOf}
 use Rattle.store.specs.Stored.{Cleared}
@@ -69,8 +70,8 @@ module _ (time : ℕ) (w s : List ℕ) (a : Answer) where
     unfolding newIn newTable unchanged refusal refusalAt TIME timeFits
     made-late e h = record { says = rw (room w s words octets, le-ltb time 0xffff_8000_0000 h, e) refl; refused = λ _. refl }
 
-    pub made-done : {w′ : List ℕ} → Cleared time w′ → a ≡ done 0 0 .answer → time < 0xffff_8000_0000 → Made time w s w′ a
-    unfolding newIn newTable timeFits done DONE
+    pub made-done : {w′ : List ℕ} → Cleared time 1 w′ → a ≡ done 0 0 .answer → time < 0xffff_8000_0000 → Made time w s w′ a
+    unfolding newIn newTable emptyTable timeFits done DONE
     made-done c e h = record { says = rw (room w s words octets, lt-ltb time 0xffff_8000_0000 h, c .table s octets, e) refl; refused = λ z. absurd (z (ap (λ (x : Answer). x .number) e)) }
 
 -- ── Enrolment ───────────────────────────────────────────────────────────────────────────────────────────────────────
@@ -104,18 +105,6 @@ floor-rule w s time o = ap serialRule (sym (shown-floor w s (o .layout))) ∙ o 
 pub row-added : (w s : List ℕ) (ok : layoutRule w s ≡ true) {suffix : List ℕ} {p : Pair} {w′ s′ : List ℕ} → Inserted suffix p w s w′ s′ → {a : Answer} → a ≡ done (countOf w + 1) (floorOf w) .answer → RowAdded suffix p w s w′ s′ a
 unfolding done
 row-added w s ok i e = record { says = rw (i .table, e, shown-count w s ok, shown-floor w s ok) refl }
-
-module _ (s : List ℕ) (e : suffixOk s ≡ true) where
-  abbrev sizes : List Bool
-  sizes = leb 3 (length s) ∷ leb (length s) 128 ∷ wireName s ∷ []
-
-  pub suffix-long : 3 ≤ length s
-  unfolding suffixOk
-  suffix-long = leb-true _ _ (each sizes e .0)
-
-  pub suffix-short : length s ≤ 128
-  unfolding suffixOk
-  suffix-short = leb-true _ _ (each sizes e .1 .0)
 
 module _ (w s suffix : List ℕ) (lifetime fresh n : ℕ) (a : Answer) where
   abbrev enrols : Table → Result

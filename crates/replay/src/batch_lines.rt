@@ -49,13 +49,6 @@ fn items_told(
     next
 }
 
-// NUMBER COUNT
-fn heading(text: &mut [u8], number: u64, count: u64) -> usize {
-    let next = print::number(text, 0, number);
-    let next = print::number_field(text, next, b' ', count);
-    print::octet(text, next, b'\n')
-}
-
 // Does a batch, whose first items stand in `items`, and prints at the front of text: how many octets. The replies stand at the front of out.
 pub fn batch_line(
     words: &mut [u64],
@@ -78,8 +71,8 @@ pub fn batch_line(
         signing_lines::lent(out, script::number(a, 1)),
     );
     if number != 0 {
-        return heading(text, number, 0);
+        return print::numbers(text, 0, number, 0);
     }
-    let at = heading(text, 0, count);
+    let at = print::numbers(text, 0, 0, count);
     items_told(text, at, count, &answers, out)
 }

@@ -2,6 +2,7 @@
 // constant memory. What is printed is tested, not proved. The first failure of reading or writing ends the run: a line that was cut off is not done, nothing
 // more is printed, and standard error says what failed.
 mod batch_lines;
+mod listing_lines;
 mod print;
 mod resolver_lines;
 mod signing_lines;

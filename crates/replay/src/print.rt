@@ -41,6 +41,13 @@ pub fn number_field(text: &mut [u8], at: usize, separator: u8, n: u64) -> usize 
     number(text, next, n)
 }
 
+// A line of two numbers.
+pub fn numbers(text: &mut [u8], at: usize, x: u64, y: u64) -> usize {
+    let next = number(text, at, x);
+    let next = number_field(text, next, b' ', y);
+    octet(text, next, b'\n')
+}
+
 // A signed number behind a space, from its word in two's complement.
 fn signed_field(text: &mut [u8], at: usize, w: u64) -> usize {
     if w < 0x8000_0000_0000_0000 {

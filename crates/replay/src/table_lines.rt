@@ -1,6 +1,6 @@
 // The script's lines that are done to the table, which lies in lent words and octets.
+use crate::listing_lines;
 use crate::print;
-use listing::Listed;
 use model::Answer;
 use model::Verdicts;
 use script::Args;
@@ -12,16 +12,6 @@ fn told(a: Answer, out: &[u8], text: &mut [u8]) -> usize {
     let skew = results::skew_word(a.skew);
     let answer = [a.number, a.length, a.error, skew, a.pair, a.serial, a.place];
     print::result(text, 0, &answer[..], print::front(out, n))
-}
-
-fn list(words: &[u64], suffixes: &[u8], text: &mut [u8]) -> usize {
-    if text.len() < 40000 {
-        return 0;
-    }
-    match listing::list(words, suffixes, text) {
-        Listed::Text(n) => n,
-        Listed::Broken => told(outcomes::refused(1), b"", text),
-    }
 }
 
 // The front of out that a line lends: ROOM octets, 65,535 at most.
@@ -97,6 +87,9 @@ pub fn table_line(
             let r = message(words, suffixes, a, arena, out);
             told(r, out, text)
         }
-        TableCall::List => list(words, suffixes, text),
+        TableCall::List => listing_lines::list(words, suffixes, text),
+        TableCall::ListIn => listing_lines::list_in(words, suffixes, x, out, text),
+        TableCall::Load => listing_lines::load(words, suffixes, a, arena, text),
+        TableCall::Mend => listing_lines::mend(words, suffixes, a, arena, text),
     }
 }

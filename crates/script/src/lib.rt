@@ -15,6 +15,9 @@ pub enum TableCall {
     Look,
     Message,
     List,
+    ListIn,
+    Load,
+    Mend,
 }
 
 // The lines that are done to the resolver.
@@ -334,8 +337,27 @@ fn read_table_line(word: &[u8], line: &[u8], arena: &mut [u8]) -> Command {
     if words::is_word(word, b"message") {
         return read_message_line(line, arena);
     }
+    read_listing_line(word, line, arena)
+}
+
+// A listing's line: without a room, or with one.
+fn read_list_line(line: &[u8], arena: &mut [u8]) -> Command {
+    let a = args_of(line, b"", arena);
+    if a.read {
+        return if_read(Call::Table(TableCall::List), a);
+    }
+    table_call(TableCall::ListIn, line, b"n", arena)
+}
+
+fn read_listing_line(word: &[u8], line: &[u8], arena: &mut [u8]) -> Command {
     if words::is_word(word, b"list") {
-        return table_call(TableCall::List, line, b"", arena);
+        return read_list_line(line, arena);
+    }
+    if words::is_word(word, b"load") {
+        return table_call(TableCall::Load, line, b"o", arena);
+    }
+    if words::is_word(word, b"mend") {
+        return table_call(TableCall::Mend, line, b"no", arena);
     }
     read_resolver_line(word, line, arena)
 }

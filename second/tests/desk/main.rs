@@ -7,6 +7,7 @@ mod closings;
 mod day;
 mod judging;
 mod keying;
+mod listings;
 mod places;
 mod reading;
 mod refusals;

@@ -95,7 +95,7 @@ fn bad_lines() {
         b"New 1",
         b"NEW 1",
         b"list ",
-        b"list 1",
+        b"list x",
         b"look",
         b"look 0",
         b"look 0g",

@@ -3,6 +3,7 @@
 
 #[path = "../../../../second/tests/desk/build.rs"]
 pub mod build;
+pub mod listing_lines;
 pub mod office_lines;
 pub mod signing_lines;
 pub mod words;

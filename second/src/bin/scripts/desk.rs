@@ -96,7 +96,7 @@ impl Table {
         table
     }
 
-    /// The table rules that every call is to keep.
+    /// The table rules that every call is to keep, without those of suffixes.
     pub fn is_sound(&self) -> bool {
         let key_sound = |p: &Pair, k: &Key| {
             k.serial >= 1
@@ -111,11 +111,16 @@ impl Table {
             (Some(a), Some(w)) => w.serial > a.serial && w.expiry >= a.expiry,
             (_, waiting) => waiting.is_none(),
         };
+        let terms_sound = |p: &Pair| {
+            (1..p.life).contains(&p.fresh) && p.life < 1 << 31 && (1..=1 << 32).contains(&p.next)
+        };
         self.pairs.len() <= 64
             && self.clock < 1 << 48
             && (1..=1 << 32).contains(&self.floor)
             && self.pairs.iter().all(|p| {
-                p.adopted.iter().chain(&p.waiting).all(|k| key_sound(p, k)) && waiting_sound(p)
+                terms_sound(p)
+                    && p.adopted.iter().chain(&p.waiting).all(|k| key_sound(p, k))
+                    && waiting_sound(p)
             })
     }
 }

@@ -11,6 +11,7 @@
 
 mod batch;
 mod desk;
+mod listing;
 mod maker;
 mod reached;
 mod resolver;

@@ -4,6 +4,7 @@
 mod batches;
 mod calls;
 mod eras;
+mod listings;
 mod messages;
 mod notes;
 mod records;
@@ -12,6 +13,7 @@ mod signing;
 mod states;
 
 pub use batches::MAX_BATCH_ROOM;
+pub use listings::{SERIALS_END, TIMES_END};
 pub use messages::{tkey, tsig};
 pub use records::{RIGHT_RECORDS, WRONG_RECORDS};
 pub use resolver::{Order, Reply, Wish};

@@ -3,6 +3,7 @@
 use super::Maker;
 use crate::batch::{Answer, Item};
 use crate::desk::{Outcome, Table};
+use crate::listing;
 use crate::resolver::{Resolver, Said};
 use crate::signing::Told;
 use crate::wire;
@@ -92,6 +93,30 @@ impl Maker<'_> {
             Answer::Done(_) => return self.hit("batch 0"),
         }
         self.check_unchanged(before);
+    }
+
+    /// `list ROOM`, `load` and `mend`.
+    pub(super) fn note_listing(&mut self, line: &[u8], before: &Table, said: &listing::Said) {
+        if !self.table.is_sound() {
+            self.surprise("the table breaks a rule");
+        }
+        let text = String::from_utf8_lossy(line);
+        let call = match text.split(' ').next() {
+            Some("list") => "list ROOM",
+            word => word.unwrap_or_default(),
+        };
+        match said {
+            listing::Said::Bad => self.hit("bad line"),
+            _ => self.hit(&format!("{call} {}", said.number())),
+        }
+        let listing::Said::Done(dropped) = said else {
+            return self.check_unchanged(before);
+        };
+        for reason in listing::REASONS {
+            if dropped.iter().any(|(_, why)| *why == reason) {
+                self.hit(&format!("line dropped for {reason}"));
+            }
+        }
     }
 
     /// One item of a batch that is done; the table is the one that the item left.

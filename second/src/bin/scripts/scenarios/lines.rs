@@ -167,7 +167,7 @@ fn bad_line(maker: &mut Maker, item: &str) -> Vec<u8> {
         return line[..line.rfind(' ').unwrap_or(0)].into();
     }
     if let Some(call) = item.strip_prefix("extra word in ") {
-        return (good(maker, call) + " 0").into();
+        return (good(maker, call) + " 0 0").into();
     }
     let words = ["new", "enrol", "issue", "revoke", "look", "message", "list"];
     let call = *maker.rng.pick(&words);

@@ -21,7 +21,7 @@ pub fn groups() -> Vec<Group> {
 
 pub const REQUESTS: [&str; 5] = ["ordinary", "renewal", "adoption", "deletion", "any mode"];
 
-fn mixture(maker: &mut Maker, item: &str) -> bool {
+pub fn mixture(maker: &mut Maker, item: &str) -> bool {
     let pair = maker.any_pair();
     let time = any_time(maker, pair);
     if item == "operator" {

@@ -4,12 +4,17 @@
 mod answers;
 mod batch_keys;
 mod batches;
+mod broken;
 mod closings;
 mod damage;
 mod exchange;
 mod keying;
 mod large;
 mod lines;
+mod listing_lines;
+mod listings;
+mod loaded;
+mod mending;
 mod mixture;
 mod names;
 mod places;
@@ -21,6 +26,7 @@ mod tables;
 mod times;
 mod tkeys;
 mod tsigs;
+mod unread;
 mod unsigning;
 
 use crate::desk::read_number;
@@ -104,6 +110,12 @@ pub fn groups() -> Vec<Group> {
     all.extend(unsigning::groups());
     all.extend(batches::groups());
     all.extend(batch_keys::groups());
+    all.extend(listings::groups());
+    all.extend(unread::groups());
+    all.extend(broken::groups());
+    all.extend(mending::groups());
+    all.extend(loaded::groups());
+    all.extend(listing_lines::groups());
     all
 }
 

@@ -1,0 +1,3 @@
+-- The laws that proofs of this crate cite.
+pub mod Laws
+pub mod Steps

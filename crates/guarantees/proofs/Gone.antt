@@ -3,11 +3,10 @@ use mathlib.Core.Path.{_≡_, refl, sym, ap, ap₂, _∙_, subst}
 use mathlib.Core.Bool.{Bool, true, false, cond, not, _&&_, false≢true}
 use mathlib.Core.Option.{Option, none, some, Option·none-ne-some, Option·some-injective}
 use mathlib.Core.Logic.{_⊎_, inl, inr}
-use mathlib.Core.List.{List, [], _∷_, _++_, map, List·Memᴰ, List·Memᴰ·head, List·Memᴰ·tail, Memᴰ·map}
-use Prim.Native.Nat.{ℕ, suc, _^_, _≤_, _<_}
+use mathlib.Core.List.{List, [], _∷_, _++_, map, List·Memᴰ, List·Memᴰ·head, List·Memᴰ·tail, Memᴰ·map, cons≢nil}
+use Prim.Native.Nat.{ℕ, zero, suc, _^_, _≤_, _<_}
 use native.Mathlib.Omega.{arith}
 use lib.Dec.{leb, ltb}
-use lib.IntN.{ℤ}
 use lib.ListN.{length, getD, set, take, drop}
 use borrow.Author.Tests.{le-ltb}
 use Rattle.model.specs.declared.Algorithm.{Algorithm}
@@ -19,16 +18,17 @@ use Rattle.model.specs.declared.Keys.the-variants.{Empty, Adopted, Renewing}
 use Rattle.model.specs.declared.Pair.{Pair}
 use Rattle.model.specs.declared.Scheme.{Scheme}
 use Rattle.model.specs.declared.Decision.{Decision}
-use Rattle.model.specs.declared.Decision.the-variants.{Refused, Passed, Renews, Adopts, Deletes, Withdraws}
-use Rattle.model.specs.Octets.{Reading, stops, reads}
+use Rattle.model.specs.declared.Decision.the-variants.{Refused, Renews, Adopts, Deletes, Withdraws}
+use Rattle.model.specs.Octets.{be16, Reading, stops, reads}
 use Rattle.model.specs.Names.{sameName, keyName, algorithmName, algorithmNumbered}
 use Rattle.model.specs.Messages.{Message, readMessage}
 use Rattle.model.specs.Tsig.{Tsig, Signature, unsigned, misplaced, wellPlaced, signature}
 use Rattle.model.specs.Tkey.{contentsOf}
-use Rattle.model.specs.Pairs.{withKeys, made, revokedKey, issued, renewedKeys, renewed, adoptedKeys, adopted, deleted, withdrawnKeys, withdrawn}
-use Rattle.model.specs.Tables.{Row, Table, noRow, rowAt, suffixAt, pairAt, withClock, withPair, namesOf, rowNamed, isNone, distinct, tableRules}
-use Rattle.model.specs.Judging.{notAuth, badKey, Holder, heldPair, heldSuffix, heldNumber, keyIf, isNamed, isKey, adoptedOf, waitingOf, signerOf, Given, Judged, unknown, inTime, step3, decide, judgeRead, judge, changed}
-use Rattle.model.specs.Calls.{breaks, refusalAt, DONE, SIZE, OFFER, FORMAT, NOTQUERY, ROOM, SPENT, TERM, Result, Step, refusal, unchanged, refuses, leaves, emptyTable, newTable, gate, Call, issue, timeOf, withoutRow, numberOwner, closed, closeOn, sizeOk, offerOk, roomFor, replyTo, replied, answered, messageStep, ownerOf, stepOf, holderAt, servedBy, served, called, KEYREC}
+use Rattle.model.specs.Pairs.{withKeys, made, revokedKey, issued, renewedKeys, renewed, adoptedKeys, adopted, deleted as deletedPair, withdrawnKeys, withdrawn as withdrawnPair}
+use Rattle.model.specs.Tables.{Row, Table, noPair, noRow, rowAt, suffixAt, pairAt, withClock, withPair, namesOf, rowNamed, isNone, distinct, tableRules}
+use Rattle.model.specs.Judging.{notAuth, badKey, Holder, nobody, heldPair, heldSuffix, heldNumber, keyIf, isNamed, isKey, adoptedOf, waitingOf, signerOf, Given, Judged, unknown, inTime, step3, decide, judgeRead, judge, changed}
+use Rattle.model.specs.Replies.{heading, rcodeReply, replyOf, secondOk}
+use Rattle.model.specs.Calls.{breaks, refusalAt, DONE, TABLE, TIME, CLOCK, SIZE, OFFER, FORMAT, NOTQUERY, ROOM, SPENT, TERM, Outcome, Result, Step, refusal, unchanged, refuses, leaves, timeFits, timeGoesOn, timeGate, emptyTable, newTable, gate, Call, issue, timeOf, withoutRow, numberOwner, closed as closedRow, closePassed, closeOn, sizeOk, offerOk, roomFor, replyTo, replied, answered, messageStep, ownerOf, stepOf, holderAt, servedBy, served, called, KEYREC}
 use Rattle.model.specs.Runs.{Operation, close, call, operated, operatedAll, Has, nextOf, keyMade}
 use Rattle.model.proofs.Tests.{left, right, and-false, differs, by-check, by-place}
 use Rattle.model.proofs.RuleFacts.{KeysOk, PairOk}
@@ -37,13 +37,12 @@ use Rattle.model.proofs.Rows.{at-member, set-has, none-member, all-distinct, ro
 use Rattle.model.proofs.CallLaws.{same-row, refused-first, passes-first, issue-spent, issue-term, issue-done}
 use Rattle.guarantees.specs.Refusals.{operationTime, movedBy}
 use Rattle.guarantees.specs.Freshness.{after, Ask, asks, Decides}
-use Rattle.guarantees.specs.Gone.{KeyIn, Goes, lost, expired, SignedWith, Nothing, GoneIsGone, Demand8}
+use Rattle.guarantees.specs.Gone.{KeyIn, Goes, lost, expired, SignedWith, Nothing, Gone, adoptedOver, deleted, withdrawn, dropped, replaced, closed, judged, GoesIsGone}
 use Rattle.guarantees.proofs.OneCall.{pass-time, served-is}
 use Rattle.guarantees.proofs.Made.{key-ok, Held, Event, next-fits, next-row, owner-enrolled}
 use Rattle.guarantees.proofs.Refusals.{demand1}
 use Rattle.guarantees.proofs.Closing.{none-left}
 use Rattle.guarantees.proofs.Freshness.{operation-made, operation-new, run-rules, is-done, waiting-is, last-rules}
-use Rattle.model.specs.Replies.{secondOk}
 
 -- ── The keys of a table that keeps the rules ────────────────────────────────────────────────────────────────────────
 
@@ -185,6 +184,31 @@ dead-run t (o ∷ os) s n r d = dead-run (operated t o .table) os s n (operation
 
 -- ── A message signed with the name of a dead key ────────────────────────────────────────────────────────────────────
 
+-- The gate refuses with a number.
+gate-refuses : (t : Table) (τ : Option ℕ) (n : ℕ) → gate t τ ≡ some n → ¬ (n ≡ 0)
+unfolding gate TABLE TIME CLOCK
+gate-refuses t τ n = by-check P some TABLE (λ e z. refusal-is 0 (e ∙ ap some z)) (tableRules t) λ _. by-time τ
+  where
+    P : Option ℕ → Type 0
+    P x = x ≡ some n → ¬ (n ≡ 0)
+
+    refusal-is : (k : ℕ) → ¬ (_≡_ {A = Option ℕ} (some (suc k)) (some 0))
+    refusal-is k e = let z : suc k ≡ 0 = Option·some-injective (suc k) 0 e in omega (arith, z)
+
+    by-time : (τ : Option ℕ) → P (timeGate τ (t .clock))
+    by-time none = λ e. absurd (Option·none-ne-some n e)
+    by-time (some time) =
+        by-check P some TIME (λ e z. refusal-is 1 (e ∙ ap some z)) (timeFits time) λ _.
+        by-check P some CLOCK (λ e z. refusal-is 2 (e ∙ ap some z)) (timeGoesOn (t .clock) time) λ _. λ e. absurd (Option·none-ne-some n e)
+
+-- So a call that is done has passed it.
+passed-gate : (t : Table) (τ : Option ℕ) → ((n : ℕ) → gate t τ ≡ some n → n ≡ 0) → gate t τ ≡ none
+passed-gate t τ f = go (gate t τ) refl
+  where
+    go : (g : Option ℕ) → gate t τ ≡ g → g ≡ none
+    go none e = refl
+    go (some n) e = absurd (gate-refuses t τ n e (f n e))
+
 key-passes : (test : Key → Bool) (k : Option Key) (a : Key) → keyIf test k ≡ some a → (k ≡ some a) × (test a ≡ true)
 key-passes test none a e = absurd (Option·none-ne-some a e)
 key-passes test (some k) a e = go (test k) refl e
@@ -225,26 +249,36 @@ late-refused h g m x e f = rw e (go (signerOf h x) refl)
     go none q = refl
     go (some a) q = ap (λ (b : Bool). cond b (next a) (unknown (Refused notAuth badKey)) .decision) (late-key a (g .now) (f a q))
 
--- A message that is refused in judging leaves its pair as it was.
+-- Such a message has a reply: a header, at least.
+refused-replies : (h : Holder) (g : Given) (m : Message) (rcode error : ℕ) → judge h g m .decision ≡ Refused rcode error → ¬ (replyTo h g m ≡ [])
+unfolding replyTo replyOf rcodeReply heading be16
+refused-replies h g m rcode error d e = cons≢nil (ap (replyOf h g m) (sym d) ∙ e)
+
+-- Done with no reply: what is seen of a message that is passed up.
+abbrev Silent : Outcome → Type 0
+Silent o = (o .answer .number ≡ 0) × (o .reply ≡ [])
+
+-- A message that is refused in judging leaves its pair as it was, and is answered or refused with a number.
 refused-stays :
     (h : Holder) (g : Given) (room : ℕ) (octets : List ℕ) (m : Message) (end : ℕ)
     → readMessage octets ≡ reads m end
     → (rcode error : ℕ)
     → judge h g m .decision ≡ Refused rcode error
-    → messageStep h g room octets .pair ≡ heldPair h
-unfolding messageStep answered replied changed leaves
+    → (messageStep h g room octets .pair ≡ heldPair h) × ¬ Silent (messageStep h g room octets .outcome)
+unfolding messageStep answered replied changed leaves refusal refusalAt SIZE OFFER FORMAT NOTQUERY KEYREC ROOM
 refused-stays h g room octets m end is rcode error e =
-    by-check P (refuses h) SIZE refl (sizeOk octets) λ _.
-    by-check P (refuses h) OFFER refl (offerOk (g .offer)) λ _.
-    by-place P (breaks h) (λ place. refl) (readMessage octets) λ n last is-too.
-    by-check P (refuses h) NOTQUERY refl (not (n .response)) λ _.
-    by-check P (refuses h) KEYREC refl (secondOk (judge h g n .decision) (g .second)) λ _.
-    by-check P (refuses h) ROOM refl (roomFor room (replyTo h g n)) λ _.
+    by-check P (refuses h) SIZE (refl, λ z. omega (arith, z .0)) (sizeOk octets) λ _.
+    by-check P (refuses h) OFFER (refl, λ z. omega (arith, z .0)) (offerOk (g .offer)) λ _.
+    by-place P (breaks h) (λ place. (refl, λ z. omega (arith, z .0))) (readMessage octets) λ n last is-too.
+    by-check P (refuses h) NOTQUERY (refl, λ z. omega (arith, z .0)) (not (n .response)) λ _.
+    by-check P (refuses h) KEYREC (refl, λ z. omega (arith, z .0)) (secondOk (judge h g n .decision) (g .second)) λ _.
+    by-check P (refuses h) ROOM (refl, λ z. omega (arith, z .0)) (roomFor room (replyTo h g n)) λ _.
     let q : n ≡ m = cc in
-    ap (λ (d : Decision). changed d (g .now) (heldPair h)) (ap (λ (y : Message). judge h g y .decision) q ∙ e)
+    let d : judge h g n .decision ≡ Refused rcode error = ap (λ (y : Message). judge h g y .decision) q ∙ e in
+    (ap (λ (x : Decision). changed x (g .now) (heldPair h)) d, λ z. refused-replies h g n rcode error d (z .1))
   where
     P : Step → Type 0
-    P s = s .pair ≡ heldPair h
+    P s = (s .pair ≡ heldPair h) × ¬ Silent (s .outcome)
 
 held-is : (t : Table) (i : ℕ) → heldPair (holderAt t i) ≡ pairAt t i
 unfolding heldPair holderAt
@@ -269,23 +303,32 @@ module _ (t : Table) (s : List ℕ) (n : ℕ) (r : tableRules t ≡ true) (d : D
   badkey-row : t .clock ≤ now → (i : ℕ) → i < length (t .rows) → judge (holderAt t i) (q .given) m .decision ≡ Refused notAuth badKey
   badkey-row h i b = late-refused (holderAt t i) (q .given) m x sign λ a e. let l : a .expiry ≤ t .clock = signer-late t s n r d x named i b a e in omega arith
 
-  not-passed-up : (i : ℕ) (k : Message) (skew : ℤ) → ¬ Decides t q i k (Passed skew)
-  not-passed-up i k skew v =
-      let readings : readMessage (q .octets) ≡ reads k (v .end) = v .readings in
-      let same : k ≡ m = cc in
-      let refused : judge (holderAt t i) (q .given) k .decision ≡ Refused notAuth badKey =
-      ap (λ (y : Message). judge (holderAt t i) (q .given) y .decision) same ∙ badkey-row (pass-time t (some now) (v .passes) .0) i (owner-enrolled t (asks q) i (v .owner))
-      in
-      let decided : judge (holderAt t i) (q .given) k .decision ≡ Passed skew = v .decided in
-      let z : _≡_ {A = ℕ} 0 1 = cc in
-      omega arith
+  badkey-at : t .clock ≤ now → (i : ℕ) → i < length (t .rows) → judge (holderAt at i) (q .given) m .decision ≡ Refused notAuth badKey
+  badkey-at h i b = ap (λ (y : Holder). judge y (q .given) m .decision) (same-holder t now i) ∙ badkey-row h i b
+
+  -- also nobody's, where its suffix is not enrolled
+  badkey-none : judge nobody (q .given) m .decision ≡ Refused notAuth badKey
+  unfolding signerOf
+  badkey-none = late-refused nobody (q .given) m x sign λ a e. absurd (Option·none-ne-some a e)
+
+  badkey-step : (h : Holder) → judge h (q .given) m .decision ≡ Refused notAuth badKey → (stepOf h (asks q) .pair ≡ heldPair h) × ¬ Silent (stepOf h (asks q) .outcome)
+  unfolding stepOf
+  badkey-step h e = refused-stays h (q .given) (q .room) (q .octets) m end is notAuth badKey e
+
+  not-passed-up : ¬ Silent (called t (asks q) .outcome)
+  unfolding timeOf unchanged refusal refusalAt withClock
+  not-passed-up = go (gate t (some now)) refl
+    where
+      by-owner : t .clock ≤ now → (o : Option ℕ) → ownerOf (namesOf at) (asks q) ≡ o → ¬ Silent (servedBy at (asks q) o .outcome)
+      by-owner h none w = badkey-step nobody badkey-none .1
+      by-owner h (some i) w = badkey-step (holderAt at i) (badkey-at h i (owner-enrolled at (asks q) i w)) .1
+
+      go : (g : Option ℕ) → gate t (some now) ≡ g → ¬ Silent (called t (asks q) .outcome)
+      go (some k) e = subst (λ (y : Result). ¬ Silent (y .outcome)) (sym (refused-first t (asks q) k e)) λ z. gate-refuses t (some now) k e (z .0)
+      go none e = subst (λ (y : Result). ¬ Silent (y .outcome)) (sym (passes-first t (asks q) e ∙ served-is at (asks q))) (by-owner (pass-time t (some now) e .0) (ownerOf (namesOf at) (asks q)) refl)
 
   step-stays : t .clock ≤ now → (i : ℕ) → i < length (t .rows) → stepOf (holderAt at i) (asks q) .pair ≡ pairAt at i
-  unfolding stepOf
-  step-stays h i b =
-      refused-stays (holderAt at i) (q .given) (q .room) (q .octets) m end is notAuth badKey
-      (ap (λ (y : Holder). judge y (q .given) m .decision) (same-holder t now i) ∙ badkey-row h i b)
-      ∙ held-is at i
+  step-stays h i b = badkey-step (holderAt at i) (badkey-at h i b) .0 ∙ held-is at i
 
   rows-stay : called t (asks q) .table .rows ≡ t .rows
   unfolding timeOf unchanged withClock
@@ -304,6 +347,7 @@ module _ (t : Table) (s : List ℕ) (n : ℕ) (r : tableRules t ≡ true) (d : D
           ∙ by-owner (pass-time t (some now) e .0) (ownerOf (namesOf at) (asks q)) refl
 
   nothing : Nothing t q
+  unfolding DONE
   nothing = record { not-passed = not-passed-up; no-change = rows-stay }
 
 -- ── The ways that the paper names ───────────────────────────────────────────────────────────────────────────────────
@@ -352,6 +396,11 @@ module _ (t : Table) (i : ℕ) (k : Key) (r : tableRules t ≡ true) where
     serial-below : Has (was .keys) k → k .serial < was .«next_serial»
     serial-below h = key-ok _ _ _ (was .keys) k (pair-ok .keys-ok) h .below
 
+    -- an operation that passes at a time not before its expiry
+    outlives : (q : Ask) → Has (was .keys) k → gate t (some (q .given .now)) ≡ none → k .expiry ≤ q .given .now → Goes t (call (asks q)) (suffixAt t i) k
+    unfolding operationTime timeOf
+    outlives q h p e = expired (key-in h) (q .given .now) refl p e
+
     -- a call that leaves this pair without the key
     loses : (c : Call) (p : Pair) → called t c .table .rows ≡ set (t .rows) i (record { suffix = suffixAt t i; pair = p }) → Has (was .keys) k → Without (p .keys) (k .serial) → Goes t (call c) (suffixAt t i) k
     unfolding operated namesOf
@@ -373,10 +422,6 @@ module _ (t : Table) (i : ℕ) (k : Key) (r : tableRules t ≡ true) where
     decided-loses : Has (was .keys) k → Without (changed d (q .given .now) was .keys) (k .serial) → Goes t (call (asks q)) (suffixAt t i) k
     decided-loses h f = loses in-table (asks q) (changed d (q .given .now) was) rows-then h f
 
-    judges : Has (was .keys) k → k .expiry ≤ q .given .now → Goes t (call (asks q)) (suffixAt t i) k
-    unfolding operationTime timeOf
-    judges h e = expired (key-in in-table h) (q .given .now) refl (x .passes) e
-
   module _ (q : Ask) (m : Message) where
     adopts-over : (new : Key) → Decides t q i m Adopts → was .keys ≡ Renewing k new → Goes t (call (asks q)) (suffixAt t i) k
     unfolding changed adopted withKeys adoptedKeys
@@ -386,11 +431,11 @@ module _ (t : Table) (i : ℕ) (k : Key) (r : tableRules t ≡ true) where
         decided-loses q m Adopts x (inl (ap adoptedOf e)) (subst (λ (ks : Keys). Without (adoptedKeys ks) (k .serial)) (sym e) (without-adopted new (k .serial) (omega arith)))
 
     deletes : Decides t q i m Deletes → Has (was .keys) k → Goes t (call (asks q)) (suffixAt t i) k
-    unfolding changed deleted withKeys
+    unfolding changed deletedPair withKeys
     deletes x h = decided-loses q m Deletes x h (without-empty (k .serial))
 
     withdraws : Decides t q i m Withdraws → waitingOf (was .keys) ≡ some k → Goes t (call (asks q)) (suffixAt t i) k
-    unfolding changed withdrawn withKeys withdrawnKeys
+    unfolding changed withdrawnPair withKeys withdrawnKeys
     withdraws x h =
         let a = waiting-is (was .keys) k h in
         let o : KeysOk _ _ _ (Renewing (a .0) k) = subst (KeysOk _ _ _) (a .1) (pair-ok (in-table q m Withdraws x) .keys-ok) in
@@ -407,9 +452,13 @@ module _ (t : Table) (i : ℕ) (k : Key) (r : tableRules t ≡ true) where
         decided-loses q m (Renews scheme g) x (inr h)
         (subst (λ (ks : Keys). Without (renewedKeys ks (q .given .now) (made was (q .given .now) g)) (k .serial)) (sym (a .1)) (without-both _ _ (k .serial) (omega arith) (omega arith)))
 
-  module _ (time number algorithm : ℕ) (e : gate t (some time) ≡ none) (w : numberOwner (namesOf t) number ≡ some i) (ends : called t (issue time number algorithm) .outcome .answer .number ≡ DONE) where
+  module _ (time number algorithm : ℕ) (w : numberOwner (namesOf t) number ≡ some i) (ends : called t (issue time number algorithm) .outcome .answer .number ≡ DONE) where
     abbrev it : Call
     it = issue time number algorithm
+
+    issues-at : gate t (some time) ≡ none
+    unfolding timeOf unchanged refusal refusalAt DONE
+    issues-at = passed-gate t (some time) λ n q. sym (ap (λ (y : Result). y .outcome .answer .number) (refused-first t it n q)) ∙ ends
 
     abbrev clocked : Table
     clocked = withClock t time
@@ -420,7 +469,7 @@ module _ (t : Table) (i : ℕ) (k : Key) (r : tableRules t ≡ true) where
 
     begins : called t it ≡ served clocked it
     unfolding timeOf
-    begins = passes-first t it e
+    begins = passes-first t it issues-at
 
     -- not refused, as its number is 0
     not-refused : {A : Type 0} (n : ℕ) → served clocked it ≡ unchanged clocked (suc n) → A
@@ -443,15 +492,39 @@ module _ (t : Table) (i : ℕ) (k : Key) (r : tableRules t ≡ true) where
         go true Unknown a b = not-refused 12 (issue-term clocked time number algorithm i w-at a b)
         go true (Known g) a b = loses below it (issued was time g) (issued-rows g a b) h (issued-without was time g (k .serial) (serial-below below h))
 
-  module _ (time number : ℕ) (e : gate t (some time) ≡ none) (w : numberOwner (namesOf t) number ≡ some i) where
+  module _ (time number : ℕ) (w : numberOwner (namesOf t) number ≡ some i) (ends : operated t (close time number) .outcome .answer .number ≡ DONE) where
+    closes-at : gate t (some time) ≡ none
+    unfolding operated closeOn unchanged refusal refusalAt DONE
+    closes-at = passed-gate t (some time) λ n q. sym (ap (λ (g : Option ℕ). closePassed t time number g .outcome .answer .number) q) ∙ ends
+
     closed-rows : operated t (close time number) .table .rows ≡ take i (t .rows) ++ drop (suc i) (t .rows)
-    unfolding operated closeOn closed withoutRow withClock namesOf
-    closed-rows = rw (e, w) refl
+    unfolding operated closeOn closedRow withoutRow withClock namesOf
+    closed-rows = rw (closes-at, w) refl
 
     closes : Has (was .keys) k → Goes t (close time number) (suffixAt t i) k
     unfolding namesOf suffixAt rowAt
     closes h = lost (key-in (number-enrolled t time number 0 i w) h) λ x j m same q _.
         differs _ (none-left (t .rows) i (number-enrolled t time number 0 i w) (all-distinct t r) (rw closed-rows at m)) same
+
+-- A key stands in a row.
+has-below : (t : Table) (i : ℕ) (k : Key) → Has (pairAt t i .keys) k → i < length (t .rows)
+unfolding pairAt rowAt noRow noPair
+has-below t i k h = go (t .rows) i h
+  where
+    go : (rs : List Row) (i : ℕ) → Has (getD rs i noRow .pair .keys) k → i < length rs
+    go [] i (inl e) = absurd (Option·none-ne-some k e)
+    go [] i (inr e) = absurd (Option·none-ne-some k e)
+    go (r ∷ rs) zero h = omega arith
+    go (r ∷ rs) (suc i) h = let b : i < length rs = go rs i h in omega arith
+
+pub ways : (t : Table) (i : ℕ) (k : Key) (o : Operation) → tableRules t ≡ true → Gone t i k o → Goes t o (suffixAt t i) k
+ways t i k o r (adoptedOver q m new x e) = adopts-over t i k r q m new x e
+ways t i k o r (deleted q m x h) = deletes t i k r q m x h
+ways t i k o r (withdrawn q m x h) = withdraws t i k r q m x h
+ways t i k o r (dropped q m scheme g x h) = drops t i k r q m scheme g x h
+ways t i k o r (replaced time number algorithm w e h) = replaces t i k r time number algorithm w e h
+ways t i k o r (closed time number w e h) = closes t i k r time number w e h
+ways t i k o r (judged q s h p e) = outlives t i k r (has-below t i k h) q h p e
 
 -- ── Messages that are signed ────────────────────────────────────────────────────────────────────────────────────────
 
@@ -482,7 +555,7 @@ signed-with octets name g = go (readMessage octets) refl
 
 -- ── The whole ───────────────────────────────────────────────────────────────────────────────────────────────────────
 
-run-append : (t : Table) (os ps : List Operation) → operatedAll t (os ++ ps) ≡ operatedAll (operatedAll t os) ps
+pub run-append : (t : Table) (os ps : List Operation) → operatedAll t (os ++ ps) ≡ operatedAll (operatedAll t os) ps
 unfolding operatedAll
 run-append t [] ps = refl
 run-append t (o ∷ os) ps = run-append (operated t o .table) os ps
@@ -491,8 +564,8 @@ then-run : (t : Table) (o : Operation) (later : List Operation) → operatedAll 
 unfolding operatedAll
 then-run t o later = refl
 
-gone-is-gone : GoneIsGone
-gone-is-gone time earlier o later s k q g w =
+pub goes-is-gone : GoesIsGone
+goes-is-gone time earlier o later s k q g w =
     subst (λ (y : Table). Nothing y q) (sym (run-append (newTable (emptyTable 0) time .table) earlier (o ∷ later) ∙ then-run t o later))
     (nothing (operatedAll u later) s (k .serial) (run-rules u later (operation-made t o rules .rules)) (dead-run u later s (k .serial) (operation-made t o rules .rules) (goes-dead t o s k rules g)) q (w .read) (w .end) (w .tsig) (w .readings) (w .is-signed) (w .name-is))
   where
@@ -504,17 +577,3 @@ gone-is-gone time earlier o later s k q g w =
 
     rules : tableRules t ≡ true
     rules = last-rules time earlier
-
-pub demand8 : Demand8
-demand8 = record {
-  gone = gone-is-gone;
-  ways = λ t i k r. record {
-    adopted-over = adopts-over t i k r;
-    deleted = deletes t i k r;
-    withdrawn = withdraws t i k r;
-    dropped = drops t i k r;
-    replaced = replaces t i k r;
-    closed = closes t i k r;
-    judged = judges t i k r;
-  };
-}

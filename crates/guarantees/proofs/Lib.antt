@@ -11,5 +11,7 @@ pub mod Refusals
 pub mod Gone
 pub mod Listings
 pub mod Batches
+pub mod GoneRuns
+pub mod GoneSamples
 pub mod Orders
 pub mod Promises

@@ -1,35 +1,28 @@
 -- The promises are kept. Assumes nothing.
 use mathlib.Core.Path.{_≡_, refl, sym, ap, _∙_}
-use mathlib.Core.Bool.{Bool, true, false, false≢true}
-use mathlib.Core.Logic.{inl}
 use mathlib.Core.List.{List, [], _∷_, map}
 use Prim.Native.Nat.{ℕ}
 use native.Mathlib.Omega.{arith}
-use Rattle.model.specs.declared.Algorithm.the-variants.{Sha256}
 use Rattle.model.specs.declared.Keys.{Keys}
 use Rattle.model.specs.declared.Keys.the-variants.{Empty, Adopted, Renewing}
 use Rattle.model.specs.declared.Scheme.the-variants.{DiffieHellman, ServerAssignment, ResolverAssignment}
-use Rattle.model.specs.Octets.{Reading, reads, stops}
-use Rattle.model.specs.Names.{keyName}
-use Rattle.model.specs.Messages.{Message, readMessage}
+use Rattle.model.specs.Messages.{readMessage}
 use Rattle.model.specs.Tables.{Table, pairAt, tableRules}
 use Rattle.model.specs.Calls.{Outcome, Call, issue, revoke}
-use Rattle.model.specs.Runs.{call, final, log, NeverBack, frameOf, ownLog, own}
+use Rattle.model.specs.Runs.{final, log, NeverBack, frameOf, ownLog, own}
 use Rattle.model.specs.Batches.{Job, batch, callsOf, allCalls, Roomy, doneJob, jobLog, inside, batchOk, givenBy, itemCall, refusedWhole, inTurn, batchOn}
 use Rattle.model.proofs.Running.{after}
-use Rattle.model.proofs.Requests.{suffix, ordinary}
-use Rattle.model.proofs.Day.{opening, first as first-key, day}
+use Rattle.model.proofs.Day.{opening, day}
 use Rattle.model.proofs.Keying.{good}
-use Rattle.guarantees.specs.Freshness.{after as run}
-use Rattle.guarantees.specs.Gone.{Goes}
 use Rattle.guarantees.specs.Isolation.{AtAnyTimes, InAnyOrder}
 use Rattle.guarantees.specs.Batches.{endsOf, outcomesIn, AtAnyRoom}
 use Rattle.guarantees.specs.Sample.{table, calls, unknown, lent, items}
 use Rattle.guarantees.specs.Promises.{numbers, Grants, Promises}
 use Rattle.guarantees.proofs.Orders.{never-back, swapped}
 use Rattle.guarantees.proofs.Refusals.{demand1}
-use Rattle.guarantees.proofs.Freshness.{last-rules, demand2}
-use Rattle.guarantees.proofs.Gone.{signed-with, demand8}
+use Rattle.guarantees.proofs.Freshness.{demand2}
+use Rattle.guarantees.proofs.GoneRuns.{demand8}
+use Rattle.guarantees.proofs.GoneSamples.{read-as, each-way, load-left-out, new-left-out}
 use Rattle.guarantees.proofs.Listings.{demand7}
 use Rattle.guarantees.proofs.Runs.{demand3}
 use Rattle.guarantees.proofs.Batches.{batches-safe, demand3-batches}
@@ -100,24 +93,7 @@ order-needed claim =
     in
     absurd (omega arith)
 
--- ── A key that goes ─────────────────────────────────────────────────────────────────────────────────────────────────
-
-key-goes : Goes (run 1000 opening) (call (issue 1200 1 256)) suffix first-key
-unfolding opening after
-key-goes = demand8 .ways (run 1000 opening) 0 first-key (last-rules 1000 opening) .replaced 1200 1 256 refl refl refl (inl refl)
-
 -- ── A granted renewal of each scheme ────────────────────────────────────────────────────────────────────────────────
-
-abbrev isRead : Reading Message → Bool
-isRead (reads m end) = true
-isRead (stops place) = false
-
-abbrev Read : Reading Message → Type 0
-Read r = (m : Message) × (end : ℕ) × (r ≡ reads m end)
-
-read-as : (r : Reading Message) → isRead r ≡ true → Read r
-read-as (reads m end) e = (m, end, refl)
-read-as (stops place) e = absurd (false≢true e)
 
 grants-4097 : Grants 4097 DiffieHellman
 unfolding opening after read-as
@@ -184,11 +160,12 @@ promises = record {
   sample-times = times;
   sample-numbers = refl;
   sample-owners = refl;
-  sample-goes = key-goes;
-  sample-signed = signed-with (ordinary 1 1250) (keyName 1 suffix) Sha256 refl;
+  sample-gone = each-way;
   sample-renewals = (grants-4097, grants-4098, grants-4099);
   needs-times = times-needed;
   needs-order = order-needed;
+  needs-no-load = load-left-out;
+  needs-no-new = new-left-out;
   sample-batch = refl;
   sample-roomy = exact-roomy;
   sample-batch-times = exact-times;

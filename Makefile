@@ -16,10 +16,10 @@ BINDIR ?= $(PREFIX)/bin
 INSTALL ?= install
 CFLAGS ?= -O2
 
-version := 0.4.0
+version := 0.5.0
 built := target/staticlib
 office_crates := capi_signing capi_resolver capi_version
-crates := capi capi_listing $(office_crates)
+crates := capi capi_listing capi_compare $(office_crates)
 archives := $(built)/libluffcringle.a $(built)/libluffcringle-office.a
 packages := luffcringle luffcringle-office
 program := target/bin/listing

@@ -26,7 +26,7 @@ extern "C" {
 #endif
 
 /* The version of this header, and of the archive that is linked: 10,000 times the first number, 100 times the second, and the third. */
-#define LUFFCRINGLE_VERSION 400
+#define LUFFCRINGLE_VERSION 500
 uint64_t luffcringle_version(void);
 
 /* ---- The table ---- */
@@ -53,7 +53,8 @@ enum luffcringle_number {
     LUFFCRINGLE_MACSIZE = 16,  /* signing: a MAC of over 64 octets */
     LUFFCRINGLE_BATCH = 17,    /* batch: more than 64 items, or one outside the lent octets */
     LUFFCRINGLE_LINE = 18,     /* load and mend: a line of the listing does not read */
-    LUFFCRINGLE_KEYREC = 19    /* a renewal of mode 4097 would be granted, but the lent record is not one KEY record */
+    LUFFCRINGLE_KEYREC = 19,   /* a renewal of mode 4097 would be granted, but the lent record is not one KEY record */
+    LUFFCRINGLE_DIFFERS = 21   /* compare: another server's reply differs from ours, at the place beside it */
 };
 
 /* The table: 1091 words and 8192 octets, which the caller keeps and lends to each call. A call reads and changes it where it lies.
@@ -282,6 +283,31 @@ enum luffcringle_mending {
 };
 uint64_t luffcringle_mend(uint64_t words[LUFFCRINGLE_TABLE_WORDS], uint8_t suffixes[LUFFCRINGLE_TABLE_OCTETS], const uint8_t *text, size_t text_length,
                           uint64_t *named, size_t named_words, uint64_t told[LUFFCRINGLE_MENDING_WORDS]);
+
+/* ---- Another server's replies (document 02, change request 12) ---- */
+
+/* Compare: whether the rules of the table allow what another server answered. Given are the listing of a table, all that luffcringle_message takes beside the
+ * table and the buffer, and the other server's reply, its TSIG taken off (luffcringle_remove), no octets where it did not answer. Ours is what luffcringle_message
+ * writes into 65535 octets on the table of the listing: no octets where it is refused or the message is passed up.
+ *
+ * DONE: the reply is accepted: it has the meaning of ours, the same header, questions and records in order. Owner and question names, and a TKEY's algorithm,
+ * are compared without regard to case, and the first two compressed or not; all else octet for octet, other data too. TSIG errors cannot be seen, as the TSIG is
+ * off: compare LUFFCRINGLE_ERROR of a message call with it.
+ *
+ * Refused with LINE (*place is the line of the listing, from 1), TABLE, DIFFERS at place 0 (just one of the two replies has octets), SIZE (theirs has under 12
+ * or over 65535 octets), FORMAT (*place is where reading theirs failed), DIFFERS (*place is the first octet of the first field of theirs that differs, in wire
+ * order: ID 0, flags 2, the counts 4, 6, 8 and 10; a question's name, type and class; a record's owner, type, class, TTL, RDLENGTH and data, of a TKEY each field of
+ * its data). *place is 0 where nothing is said of it here.
+ *
+ * Our own reply to more than one question need not read, where a later one's name points into the middle of an earlier one: then no reply is accepted, and one that
+ * is equal to ours is FORMAT.
+ *
+ * `words`, `suffixes` and `reply` are for the work, and hold anything afterwards: lend no table that is in use. */
+#define LUFFCRINGLE_REPLY_OCTETS 65535
+uint64_t luffcringle_compare(const uint8_t *listing, size_t listing_length, uint64_t time, bool good, const uint8_t *message, size_t message_length,
+                             const uint8_t *offer, size_t offer_length, bool fits, const uint8_t *record, size_t record_length, const uint8_t *theirs,
+                             size_t theirs_length, uint64_t words[LUFFCRINGLE_TABLE_WORDS], uint8_t suffixes[LUFFCRINGLE_TABLE_OCTETS],
+                             uint8_t reply[LUFFCRINGLE_REPLY_OCTETS], uint64_t *place);
 
 /* ---- Inquiries ----
  *

@@ -25,7 +25,8 @@ static struct luffcringle_table table;
 static uint64_t answer[LUFFCRINGLE_ANSWER_WORDS], items[LUFFCRINGLE_ITEMS_WORDS], answers[LUFFCRINGLE_ANSWERS_WORDS];
 static uint64_t named[2 * MOST_NAMED], told[LUFFCRINGLE_MENDING_WORDS];
 static uint8_t reply[MOST_ROOM], replies[MOST_BATCH_ROOM], text[LUFFCRINGLE_LISTING_OCTETS];
-static struct octets suffix, message, offer, record, listing;
+static struct octets suffix, message, offer, record, listing, theirs;
+static struct luffcringle_table scratch;
 
 /* ---- Reading ---- */
 
@@ -270,6 +271,20 @@ static bool run_mend(const struct word *w) {
     return true;
 }
 
+/* ---- Another server's reply ---- */
+
+static bool run_compare(const struct word *w) {
+    uint64_t time, place, number;
+    bool good, fits;
+    if (!read_octets(w[1], &listing) || !read_number(w[2], &time) || !read_verdict(w[3], &good) || !read_octets(w[4], &offer) ||
+        !read_octets(w[5], &message) || !read_verdict(w[6], &fits) || !read_octets(w[7], &record) || !read_octets(w[8], &theirs))
+        return false;
+    number = luffcringle_compare(listing.octet, listing.length, time, good, message.octet, message.length, offer.octet, offer.length, fits, record.octet,
+                                 record.length, theirs.octet, theirs.length, scratch.words, scratch.suffixes, reply, &place);
+    printf("%" PRIu64 " %" PRIu64 "\n", number, place);
+    return true;
+}
+
 static const struct {
     const char *word;
     size_t words;
@@ -288,6 +303,8 @@ static bool run_line(const char *line, size_t length) {
         return run_load(words);
     if (count == 3 && is(words[0], "mend"))
         return run_mend(words);
+    if (count == 9 && is(words[0], "compare"))
+        return run_compare(words);
     if (count >= 3 && is(words[0], "batch"))
         return run_batch(words, count);
     for (size_t i = 0; i < sizeof calls / sizeof calls[0]; i++)

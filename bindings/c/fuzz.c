@@ -18,7 +18,7 @@
 
 #include "luffcringle.h"
 
-enum { PAGE = 4096, MOST = 70000, MOST_LENT = 8, MOST_SEEDS = 400 };
+enum { PAGE = 4096, MOST = 70000, MOST_LENT = 9, MOST_SEEDS = 400, MOST_NUMBERS = 22 };
 
 /* ---- Chance ---- */
 
@@ -81,7 +81,7 @@ static bool kept(const void *at) { return kept_from(at, 0); }
 /* ---- What is seen ---- */
 
 enum call {
-    NEW, ENROL, CLOSE, ISSUE, REVOKE, LOOK, MESSAGE, BATCH, LIST, LOAD, MEND, DROPPED, TEST, PAIR_OF_SUFFIX, PAIR_OF_KEY, KEY_NAME, PAIR, ASKS,
+    NEW, ENROL, CLOSE, ISSUE, REVOKE, LOOK, MESSAGE, BATCH, LIST, LOAD, MEND, DROPPED, COMPARE, TEST, PAIR_OF_SUFFIX, PAIR_OF_KEY, KEY_NAME, PAIR, ASKS,
     DIGEST_REQUEST, DIGEST_REPLY, DIGEST_LATER, FINISH, READ_TSIG, REMOVE, RECEIVED_REQUEST, RECEIVED_REPLY, RECEIVED_LATER,
     HOLD, RENEWAL, ADOPTION, DELETION, REPLY, CALLS
 };
@@ -101,6 +101,7 @@ static const struct {
     [LOAD] = {"load", "0 1 18"},
     [MEND] = {"mend", "0 1 8 18"},
     [DROPPED] = {"mend, dropped", "1 14 15 18"},
+    [COMPARE] = {"compare", "0 1 4 6 18 21"},
     [TEST] = {"test", "0 1"},
     [PAIR_OF_SUFFIX] = {"pair_of_suffix", "0 1 9"},
     [PAIR_OF_KEY] = {"pair_of_key", "0 1 9 12"},
@@ -122,7 +123,7 @@ static const struct {
     [DELETION] = {"resolver_deletion", "0 5 6"},
     [REPLY] = {"resolver_reply", "0 1 2 3 4"},
 };
-static uint64_t seen[CALLS][20];
+static uint64_t seen[CALLS][MOST_NUMBERS];
 
 static void fail(enum call call, const char *what) {
     fprintf(stderr, "luffcringle_%s, call %" PRIu64 ": %s\n", listed[call].name, calls_made, what);
@@ -490,6 +491,41 @@ static void load_and_mend(void) {
         table = before;
 }
 
+/* ---- Another server's reply ---- */
+
+/* Ours, by the table of the text; damaged now and then. Answers with its size. */
+static size_t make_theirs(uint64_t time, bool good) {
+    static struct luffcringle_table loaded;
+    uint64_t line, answer[LUFFCRINGLE_ANSWER_WORDS];
+    size_t size = 0;
+    if (!luffcringle_load(loaded.words, loaded.suffixes, text.octets, text.size, &line) &&
+        !luffcringle_message(loaded.words, loaded.suffixes, time, good, made.octets, made.size, made.octets, 9, false, made.octets, 0, spare,
+                             LUFFCRINGLE_REPLY_OCTETS, answer))
+        size = answer[LUFFCRINGLE_LENGTH];
+    if (size && one_in(2))
+        spare[one_in(2) ? below(size) : below(12)] ^= 1 << below(8);
+    return one_in(10) ? below(size + 3) : size;
+}
+
+static void compare(void) {
+    pick_message();
+    if (one_in(8))
+        damage_text();
+    uint64_t time = time_of(made.octets, made.size);
+    bool good = !one_in(5);
+    made.size = made.size < 9 ? 9 : made.size;
+    size_t size = make_theirs(time, good);
+    uint8_t *listing = lend(text.octets, text.size), *octets = lend(made.octets, made.size), *offer = lend(made.octets, 9), *record = lend(NULL, 0);
+    uint8_t *theirs = lend(spare, size), *suffixes = lend(&table.suffixes, sizeof table.suffixes), *reply = lend(NULL, LUFFCRINGLE_REPLY_OCTETS);
+    uint64_t *words = lend_words(), *place = lend(NULL, 8);
+    uint64_t number = luffcringle_compare(listing, text.size, time, good, octets, made.size, offer, 9, false, record, 0, theirs, size, words, suffixes,
+                                          reply, place);
+    check(COMPARE, number);
+    must(COMPARE, kept(listing) && kept(octets) && kept(offer) && kept(record) && kept(theirs), "what is const");
+    must(COMPARE, number == LUFFCRINGLE_LINE || *place <= size, "the place");
+    must(COMPARE, number == LUFFCRINGLE_LINE || number == LUFFCRINGLE_FORMAT || number == LUFFCRINGLE_DIFFERS || !*place, "a place beside others");
+}
+
 /* ---- Inquiries ---- */
 
 /* Of any words: a serial that is told is one of those before or after. */
@@ -730,6 +766,8 @@ static void step(void) {
         list();
         lent_count = 0;
         load_and_mend();
+        lent_count = 0;
+        compare();
         break;
     default: resolve();
     }
@@ -740,7 +778,7 @@ static bool report(void) {
     bool all = true;
     for (int call = 0; call < CALLS; call++) {
         printf("luffcringle_%s:", listed[call].name);
-        for (uint64_t number = 0; number < 20; number++) {
+        for (uint64_t number = 0; number < MOST_NUMBERS; number++) {
             if (!is_listed(call, number))
                 continue;
             bool missing = !seen[call][number];

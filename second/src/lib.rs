@@ -12,12 +12,14 @@
 //! and reads the replies. `signing` has the octets under a MAC, and puts a TSIG
 //! on and takes it off (CR 3); it knows no key. `batch` makes several message
 //! calls in one (CR 4). `inquiries` are what a name server asks beside: of a
-//! table, of a pair before and after a call, of a message. A renewal has one of three schemes (CR 10); the resolver
-//! here asks for server assignment alone.
+//! table, of a pair before and after a call, of a message. `compare` holds another
+//! server's reply to ours (CR 12). A renewal has one of three schemes (CR 10); the
+//! resolver here asks for server assignment alone.
 #![forbid(unsafe_code)]
 
 pub mod batch;
 pub mod calls;
+pub mod compare;
 pub mod inquiries;
 mod judging;
 pub mod listing;
@@ -31,6 +33,7 @@ mod wire;
 
 pub use batch::batch;
 pub use calls::{close, enrol, issue, look, message, new, revoke, Done, Refusal};
+pub use compare::compare;
 pub use judging::Given;
 pub use table::{Algorithm, Key, Keys, Pair, Table};
 pub use wire::Tsig;

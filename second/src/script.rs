@@ -5,6 +5,7 @@ use std::io::{self, BufRead, Read, Write};
 
 use crate::batch::{self, Item, Span};
 use crate::calls::{self, Done, Refusal};
+use crate::compare::{self, compare};
 use crate::judging::Given;
 use crate::listing::{self, Dropped};
 use crate::resolver::{self, Asked, Resolver, Which, Wish, Written};
@@ -86,6 +87,8 @@ impl Runner {
             print_signing(result, &self.buffer, out);
         } else if self.listing(&words, out).is_some() {
             // It is done and printed.
+        } else if let Some(result) = compare_line(&words) {
+            print_compared(result, out);
         } else if let Some(message) = read_back_line(&words) {
             print_tsig(signing::read_back(&message), out);
         } else if self.tell_resolver(&words, out).is_none() {
@@ -354,6 +357,22 @@ fn read_back_line(words: &[&[u8]]) -> Option<Vec<u8>> {
     }
 }
 
+/// CR 12: a `compare` line, done. The run's table has no part in it.
+fn compare_line(words: &[&[u8]]) -> Option<Result<(), compare::Refusal>> {
+    let [b"compare", listing, time, verdict, offer, message, fits, record, reply] = *words else {
+        return None;
+    };
+    let given = Given {
+        time: number(time)?,
+        good: is_good(verdict)?,
+        offer: &octets(offer)?,
+        fits: is_good(fits)?,
+        record: &octets(record)?,
+    };
+    let (listing, message, reply) = (octets(listing)?, octets(message)?, octets(reply)?);
+    Some(compare(&listing, &given, &message, &reply))
+}
+
 /// SCRIPT.md: an item of a batch, which has exactly nine words.
 fn item(words: &[&[u8]]) -> Option<Item> {
     let [time, verdict, from, size, offer_from, offer_size, fits, record_from, record_size] =
@@ -454,6 +473,13 @@ fn print_batch(result: Result<Vec<CallResult>, Refusal>, replies: &[u8], out: &m
         print_result(result, rest, out);
         rest = &rest[result.map_or(0, |done| done.length)..];
     }
+}
+
+/// CR 12: NUMBER PLACE.
+fn print_compared(result: Result<(), compare::Refusal>, out: &mut Vec<u8>) {
+    let number = result.err().map_or(0, compare::Refusal::number);
+    let place = result.err().map_or(0, compare::Refusal::place);
+    print(out, format_args!("{number} {place}\n"));
 }
 
 /// SCRIPT.md: octets in a result, `-` for none.

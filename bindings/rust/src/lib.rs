@@ -12,6 +12,7 @@
 #![deny(missing_docs)]
 #![deny(unsafe_op_in_unsafe_fn)]
 
+mod compare;
 mod inquiry;
 mod listing;
 pub mod resolver;
@@ -21,6 +22,7 @@ mod table;
 mod view;
 mod words;
 
+pub use compare::{compare, Objection};
 pub use inquiry::{asks, Asks, Mode, Moves, PairState};
 pub use listing::{Dropped, LoadError, Reason, LISTING_OCTETS};
 pub use sys::{Octets, Words};
@@ -29,8 +31,8 @@ pub use table::{MOST_ITEMS, TABLE_OCTETS, TABLE_WORDS};
 pub use view::{Key, Keys, Pair, View};
 pub use words::{Algorithm, Name, Refusal, TsigError, Verdict};
 
-/// The version of the archive that is linked, as the header numbers it: 400 is
-/// 0.4.0.
+/// The version of the archive that is linked, as the header numbers it: 500 is
+/// 0.5.0.
 pub fn version() -> u64 {
     // SAFETY: nothing is lent.
     unsafe { sys::luffcringle_version() }

@@ -20,7 +20,7 @@ pub enum LoadError {
 }
 
 impl LoadError {
-    fn of(number: u64, line: u64) -> LoadError {
+    pub(crate) fn of(number: u64, line: u64) -> LoadError {
         match number {
             1 => LoadError::Table,
             18 => LoadError::Line(line),

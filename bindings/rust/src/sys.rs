@@ -6,6 +6,8 @@
 pub type Words = [u64; 1091];
 /// A table's suffixes, 128 octets for each place.
 pub type Octets = [u8; 8192];
+/// Room for the longest reply.
+pub type ReplyOctets = [u8; 65_535];
 /// The answer of a call on the table.
 pub type Told = [u64; 7];
 /// An item of a batch.
@@ -127,6 +129,26 @@ extern "C" {
         named: *mut u64,
         named_words: usize,
         told: &mut MendingWords,
+    ) -> u64;
+
+    pub fn luffcringle_compare(
+        listing: *const u8,
+        listing_length: usize,
+        time: u64,
+        good: bool,
+        message: *const u8,
+        message_length: usize,
+        offer: *const u8,
+        offer_length: usize,
+        fits: bool,
+        record: *const u8,
+        record_length: usize,
+        theirs: *const u8,
+        theirs_length: usize,
+        words: &mut Words,
+        suffixes: &mut Octets,
+        reply: &mut ReplyOctets,
+        place: &mut u64,
     ) -> u64;
 
     pub fn luffcringle_test(words: &Words, suffixes: &Octets) -> u64;

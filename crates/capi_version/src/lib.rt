@@ -3,7 +3,7 @@ ghost use mathlib.Core.Path.{_≡_};
 
 #[no_mangle]
 pub extern "C" fn luffcringle_version() -> u64
-    ensures { λ r. ⌜ r ≡ 400 ⌝ }
+    ensures { λ r. ⌜ r ≡ 500 ⌝ }
 {
-    400
+    500
 }

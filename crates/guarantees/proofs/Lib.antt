@@ -10,6 +10,7 @@ pub mod Freshness
 pub mod Refusals
 pub mod Gone
 pub mod Listings
+pub mod Comparing
 pub mod Batches
 pub mod GoneRuns
 pub mod GoneSamples

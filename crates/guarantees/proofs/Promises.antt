@@ -24,6 +24,7 @@ use Rattle.guarantees.proofs.Freshness.{demand2}
 use Rattle.guarantees.proofs.GoneRuns.{demand8}
 use Rattle.guarantees.proofs.GoneSamples.{read-as, each-way, load-left-out, new-left-out}
 use Rattle.guarantees.proofs.Listings.{demand7}
+use Rattle.guarantees.proofs.Comparing.{demand12}
 use Rattle.guarantees.proofs.Runs.{demand3}
 use Rattle.guarantees.proofs.Batches.{batches-safe, demand3-batches}
 
@@ -153,6 +154,7 @@ promises = record {
   names = demand2;
   gone = demand8;
   listings = demand7;
+  comparing = demand12;
   isolation = demand3;
   batches-safe = batches-safe;
   batches = demand3-batches;

@@ -2,6 +2,7 @@ pub mod Refusals
 pub mod Freshness
 pub mod Gone
 pub mod Listings
+pub mod Comparing
 pub mod Isolation
 pub mod Batches
 pub mod Sample

@@ -3,15 +3,15 @@ use mathlib.Core.Path.{_≡_}
 use mathlib.Core.Bool.{Bool, true, not}
 use mathlib.Core.Option.{none, some}
 use mathlib.Core.List.{List, [], _∷_, _++_}
-use Prim.Native.Nat.{ℕ, _≤_}
+use Prim.Native.Nat.{ℕ, suc, _≤_, _<_}
 use lib.Dec.{eqb}
 use lib.ListN.{length}
 use Rattle.model.specs.Tables.{Row, Table, every, namesOf, tableRules}
 use Rattle.model.specs.Calls.{LINE}
 use Rattle.model.specs.Listing.{listing}
 use Rattle.model.specs.declared.Clocked.{Clocked}
-use Rattle.model.specs.Lines.{linesOf, areOctets}
-use Rattle.model.specs.Loading.{firstUnread, Entry, says, loaded, load, keeps, judged, isReason, Dropped, mended, mend, mendIn, linesLeft}
+use Rattle.model.specs.Lines.{linesOf, areOctets, readClock}
+use Rattle.model.specs.Loading.{firstUnread, Entry, says, loaded, load, keeps, judged, isReason, Dropped, clockedRule, noRoom, mended, mend, mendIn, linesLeft}
 
 -- The table keeps the rules, and its suffixes are octets (the rules do not bound what stands inside a label; code cannot hold anything else).
 pub record Sound (t : Table) : Type 0 where
@@ -24,6 +24,11 @@ tableWith c rs = record { clock = c .clock; floor = c .floor; rows = rs }
 -- A line that is dropped for another reason than 18.
 abbrev pub otherReason : Dropped → Bool
 otherReason d = not (eqb (d .reason) LINE)
+
+-- Lines from line n on, each below the next.
+abbrev pub Rising : ℕ → List Dropped → Type 0
+Rising n [] = Unit {0}
+Rising n (d ∷ ds) = (n ≤ d .line) × Rising (suc (d .line)) ds
 
 pub record Demand7 : Type 0 where
   -- "Loading and listing undo each other": what loads is sound and lists as the same text, and every sound table's listing loads as the same table
@@ -50,5 +55,12 @@ pub record Demand7 : Type 0 where
   -- a listing that loads is one of which mending drops nothing
   pub mend-whole : (s : List ℕ) (t : Table) → load s ≡ loaded t → mend s ≡ mended t []
   pub whole-loads : (s : List ℕ) (t : Table) → mend s ≡ mended t [] → load s ≡ loaded t
-  -- and room to name fewer lines refuses, and changes nothing else
-  pub with-room : (room : ℕ) (s : List ℕ) (t : Table) (ds : List Dropped) → mendIn room s ≡ mended t ds → (mend s ≡ mended t ds) × (length ds ≤ room)
+  -- mending is done where line 1 reads and keeps its rules, with its clock and floor, whatever stands below
+  pub mend-read :
+      (s l : List ℕ) (ls : List (List ℕ)) (c : Clocked) → linesOf s ≡ l ∷ ls → readClock l ≡ some c → clockedRule c ≡ true
+      → (t : Table) × (ds : List Dropped) × (mend s ≡ mended t ds) × (t .clock ≡ c .clock) × (t .floor ≡ c .floor)
+  -- dropped lines are named in order, none twice
+  pub in-order : (s : List ℕ) (t : Table) (ds : List Dropped) → mend s ≡ mended t ds → Rising 2 ds
+  -- and room to name fewer lines refuses with ROOM, and room for all changes nothing
+  pub with-room : (room : ℕ) (s : List ℕ) (t : Table) (ds : List Dropped) → mend s ≡ mended t ds → length ds ≤ room → mendIn room s ≡ mended t ds
+  pub without-room : (room : ℕ) (s : List ℕ) (t : Table) (ds : List Dropped) → mend s ≡ mended t ds → room < length ds → mendIn room s ≡ noRoom

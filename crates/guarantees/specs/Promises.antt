@@ -20,6 +20,7 @@ use Rattle.guarantees.specs.Refusals.{Demand1}
 use Rattle.guarantees.specs.Freshness.{after, Ask, Decides, Demand2}
 use Rattle.guarantees.specs.Gone.{on, batch, operationsOf, SignedWith, Gone, newAt, EvenLoaded, EvenNew, Demand8}
 use Rattle.guarantees.specs.Listings.{Demand7}
+use Rattle.guarantees.specs.Comparing.{Demand12}
 use Rattle.guarantees.specs.Isolation.{Demand3, AtAnyTimes, InAnyOrder}
 use Rattle.guarantees.specs.Batches.{BatchesSafe, Demand3Batches, AtAnyRoom}
 use Rattle.guarantees.specs.Sample.{table, calls, lent, items}
@@ -76,6 +77,8 @@ pub record Promises : Type 0 where
   pub gone : Demand8
   -- loading and listing undo each other, and mending keeps what keeps the rules (02, CR 7)
   pub listings : Demand7
+  -- another server's reply is accepted exactly when it has the meaning of ours (02, CR 12)
+  pub comparing : Demand12
   -- the pairs are kept apart, over any run whose times never go back
   pub isolation : Demand3
   -- a batch is done as calls, or refused whole and changes nothing (02, CR 4); over any run with batches, each with a buffer that holds its replies together,

@@ -8,7 +8,7 @@ use Prim.Native.Nat.{ℕ, zero, suc, _+_, _≤_, _<_}
 use native.Mathlib.Omega.{arith}
 use lib.Dec.{leb, ltb, eqb}
 use lib.ListN.{length, length-append}
-use borrow.Author.Tests.{leb-true, le-leb, ltb-true, lt-ltb, eqb-false, ne-eqb}
+use borrow.Author.Tests.{leb-true, le-leb, lt-leb, ltb-true, lt-ltb, eqb-false, ne-eqb}
 use Rattle.model.specs.declared.Pair.{Pair}
 use Rattle.model.specs.Names.{sameName}
 use Rattle.model.specs.Tables.{Row, Table, every, isNone, namesOf, rowNamed, distinct, suffixOk, serialRule, clockRule, pairRule, tableTests, tableRules}
@@ -448,3 +448,76 @@ mend-in room s t ds e = go (mend s) e
     go noRule e = let z : _≡_ {A = ℕ} 0 1 = cc in absurd (omega arith)
     go noRoom e = let z : _≡_ {A = ℕ} 0 1 = cc in absurd (omega arith)
     go (mended u es) e = fits u es (leb (length es) room) refl e
+
+-- ── Room, and the order of what is named ────────────────────────────────────────────────────────────────────────────
+
+pub mend-roomy : (room : ℕ) (s : List ℕ) (t : Table) (ds : List Dropped) → mend s ≡ mended t ds → length ds ≤ room → mendIn room s ≡ mended t ds
+unfolding mendIn
+mend-roomy room s t ds e h = ap (mendedIn room) e ∙ rw (le-leb (length ds) room h) refl
+
+pub mend-short : (room : ℕ) (s : List ℕ) (t : Table) (ds : List Dropped) → mend s ≡ mended t ds → room < length ds → mendIn room s ≡ noRoom
+unfolding mendIn
+mend-short room s t ds e h = ap (mendedIn room) e ∙ rw (lt-leb (length ds) room h) refl
+
+-- Lines from n on, each below the next.
+abbrev pub Rising : ℕ → List Dropped → Type 0
+Rising n [] = Unit {0}
+Rising n (d ∷ ds) = (n ≤ d .line) × Rising (suc (d .line)) ds
+
+rising-from : (n m : ℕ) (ds : List Dropped) → n ≤ m → Rising m ds → Rising n ds
+rising-from n m [] h r = tt
+rising-from n m (d ∷ ds) h r = (omega (arith, h, r .0), r .1)
+
+rising-dropped : (reason n k : ℕ) (ds : List Dropped) → Rising (n + k) ds → Rising n (droppedFrom reason n k ++ ds)
+unfolding droppedFrom
+rising-dropped reason n zero ds r = rising-from n (n + 0) ds (omega arith) r
+rising-dropped reason n (suc k) ds r = let z : n + suc k ≡ suc n + k = omega arith in (omega arith, rising-dropped reason (suc n) k ds (subst (λ (m : ℕ). Rising m ds) z r))
+
+rising-kept : (clock : ℕ) (kept : List Row) (n : ℕ) (bs : List Block) → Rising n (keptFrom clock kept n bs .dropped)
+unfolding keptFrom
+rising-kept clock kept n [] = tt
+rising-kept clock kept n (b ∷ bs) = go (judged clock kept (entryOf b)) (λ k. rising-kept clock k (n + sizeOf b) bs)
+  where
+    go :
+        (j : Judged)
+        → ((k : List Row) → Rising (n + sizeOf b) (keptFrom clock k (n + sizeOf b) bs .dropped))
+        → Rising n
+        ((elim j as (λ (j : Judged). Kept) [
+          | keeps r ↦ keptFrom clock (kept ++ (r ∷ [])) (n + sizeOf b) bs
+          | drops reason ↦ dropping (droppedFrom reason n (sizeOf b)) (keptFrom clock kept (n + sizeOf b) bs)
+        ])
+        .dropped)
+    go (keeps r) rec = rising-from n (n + sizeOf b) (keptFrom clock (kept ++ (r ∷ [])) (n + sizeOf b) bs .dropped) (omega arith) (rec (kept ++ (r ∷ [])))
+    go (drops reason) rec = rising-dropped reason n (sizeOf b) (keptFrom clock kept (n + sizeOf b) bs .dropped) (rec kept)
+
+abbrev RisingIn : Mended → Type 0
+RisingIn noClock = Unit {0}
+RisingIn noRule = Unit {0}
+RisingIn noRoom = Unit {0}
+RisingIn (mended t ds) = Rising 2 ds
+
+lines-rising : (o : Option Clocked) (b : Blocks) → RisingIn (mendedBy o b)
+lines-rising none b = tt
+lines-rising (some c) b = either RisingIn (clockedRule c) (λ r. rising-dropped LINE 2 (length (b .loose)) _ (rising-kept (c .clock) [] (2 + length (b .loose)) (b .blocks))) (λ r. tt)
+
+mend-rises : (ls : List (List ℕ)) → RisingIn (mendLines ls)
+unfolding mendLines
+mend-rises [] = tt
+mend-rises (l ∷ ls) = lines-rising (readClock l) (blocksOf ls)
+
+pub mend-rising : (s : List ℕ) (t : Table) (ds : List Dropped) → mend s ≡ mended t ds → Rising 2 ds
+unfolding mend
+mend-rising s t ds e = subst RisingIn e (mend-rises (linesOf s))
+
+-- Mending is done exactly where the clock line reads and keeps its rules; and LINE and TABLE say why it is not.
+pub mend-read : (s l : List ℕ) (ls : List (List ℕ)) (c : Clocked) → linesOf s ≡ l ∷ ls → readClock l ≡ some c → clockedRule c ≡ true → (t : Table) × (ds : List Dropped) × (mend s ≡ mended t ds) × (t .clock ≡ c .clock) × (t .floor ≡ c .floor)
+unfolding mend mendLines
+mend-read s l ls c e f r =
+    let b = blocksOf ls in
+    let k = dropping (droppedFrom LINE 2 (length (b .loose))) (keptFrom (c .clock) [] (2 + length (b .loose)) (b .blocks)) in (
+      record { clock = c .clock; floor = c .floor; rows = k .rows },
+      k .dropped,
+      ap mendLines e ∙ ap (λ (o : Option Clocked). mendedBy o b) f ∙ rw r refl,
+      refl,
+      refl,
+    )

@@ -2,6 +2,7 @@
 // constant memory. What is printed is tested, not proved. The first failure of reading or writing ends the run: a line that was cut off is not done, nothing
 // more is printed, and standard error says what failed.
 mod batch_lines;
+mod compare_lines;
 mod listing_lines;
 mod print;
 mod resolver_lines;
@@ -57,6 +58,7 @@ fn perform(
             let n = batch_lines::batch_line(words, suffixes, a, items, arena, out, text);
             printed(s, n)
         }
+        Call::Compare => printed(s, compare_lines::compare_line(a, arena, text)),
         Call::Resolver(call) => {
             let l = resolver_lines::resolver_line(s, call, a, arena, out, text);
             let resolver = l.state;

@@ -44,6 +44,7 @@ pub enum SigningCall {
 pub enum Call {
     Table(TableCall),
     Batch,
+    Compare,
     Resolver(ResolverCall),
     Signing(SigningCall),
     Unread,
@@ -358,6 +359,9 @@ fn read_listing_line(word: &[u8], line: &[u8], arena: &mut [u8]) -> Command {
     }
     if words::is_word(word, b"mend") {
         return table_call(TableCall::Mend, line, b"no", arena);
+    }
+    if words::is_word(word, b"compare") {
+        return command_of(Call::Compare, line, b"onvoovoo", arena);
     }
     read_resolver_line(word, line, arena)
 }

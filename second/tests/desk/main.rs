@@ -4,6 +4,7 @@ mod batches;
 mod build;
 mod clients;
 mod closings;
+mod comparing;
 mod day;
 mod judging;
 mod keying;

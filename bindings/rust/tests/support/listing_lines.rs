@@ -1,8 +1,8 @@
 //! The lines of a script that list the table, load one and mend one, through the
 //! wrapper.
 
-use super::words::{number, octets};
-use luffcringle::{sys, Dropped, LoadError, Table, LISTING_OCTETS};
+use super::words::{number, octets, verdict_of};
+use luffcringle::{compare, sys, Dropped, Given, LoadError, Table, LISTING_OCTETS};
 use std::fmt::Write;
 
 /// The most lines that can be named.
@@ -25,10 +25,35 @@ pub fn line(table: &mut Table, words: &[&str]) -> Option<String> {
             let named = mend(table, &text, room);
             (printed(&named), named.is_ok())
         }
+        ["compare", ref words @ ..] => (compared(words)?, false),
         _ => return None,
     };
     assert!(is_done || before.parts() == table.parts(), "what is kept");
     Some(printed)
+}
+
+/// Another server's reply, by the table of a listing.
+fn compared(words: &[&str]) -> Option<String> {
+    let [listing, time, verdict, offer, message, fits, record, reply] = *words else {
+        return None;
+    };
+    let given = Given {
+        time: number(time)?,
+        mac: verdict_of(verdict)?,
+        offer: &octets(offer)?,
+        keying: verdict_of(fits)?,
+        record: &octets(record)?,
+    };
+    let result = compare(
+        &octets(listing)?,
+        &given,
+        &octets(message)?,
+        &octets(reply)?,
+    );
+    let (number, place) = result
+        .err()
+        .map_or((0, 0), |error| (error.number(), error.place()));
+    Some(format!("{number} {place}\n"))
 }
 
 fn least(word: &str, limit: usize) -> Option<usize> {

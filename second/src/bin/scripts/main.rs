@@ -10,6 +10,7 @@
 //! Every fourth seed (3, 7, 11 ...) ends its script without a newline.
 
 mod batch;
+mod compare;
 mod desk;
 mod listing;
 mod maker;

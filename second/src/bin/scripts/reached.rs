@@ -20,7 +20,7 @@ pub struct Reached {
 const TABLE: &str = "a script starts from the empty table, every call keeps the table rules, and \
 load and mend leave no table that breaks one";
 
-const CALLS: [(&str, &[u64]); 23] = [
+const CALLS: [(&str, &[u64]); 24] = [
     ("new", &[0, 2]),
     ("enrol", &[0, 2, 3, 11, 12, 13, 14, 15]),
     ("issue", &[0, 2, 3, 9, 11, 13]),
@@ -33,6 +33,7 @@ const CALLS: [(&str, &[u64]); 23] = [
     ("list ROOM", &[0, 8]),
     ("load", &[0, 1, 18]),
     ("mend", &[0, 1, 8, 18]),
+    ("compare", &[0, 1, 4, 6, 18, 21]),
     ("hold", &[0]),
     ("note", &[0]),
     ("renewal", &[0, 5, 6]),

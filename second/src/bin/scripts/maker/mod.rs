@@ -3,6 +3,7 @@
 
 mod batches;
 mod calls;
+mod comparing;
 mod eras;
 mod listings;
 mod messages;
@@ -13,6 +14,7 @@ mod signing;
 mod states;
 
 pub use batches::MAX_BATCH_ROOM;
+pub use comparing::Judged;
 pub use listings::{SERIALS_END, TIMES_END};
 pub use messages::{tkey, tsig};
 pub use records::{RIGHT_RECORDS, WRONG_RECORDS};

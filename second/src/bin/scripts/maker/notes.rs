@@ -2,6 +2,7 @@
 
 use super::Maker;
 use crate::batch::{Answer, Item};
+use crate::compare;
 use crate::desk::{Outcome, Table};
 use crate::listing;
 use crate::resolver::{Resolver, Said};
@@ -116,6 +117,27 @@ impl Maker<'_> {
             if dropped.iter().any(|(_, why)| *why == reason) {
                 self.hit(&format!("line dropped for {reason}"));
             }
+        }
+    }
+
+    /// `compare`: the place is 0 or in the reply, or a line of the listing.
+    pub(super) fn note_compare(&mut self, line: &[u8], said: compare::Said) {
+        if self.printed(b"list") != self.listing || self.printed(b"keys") != self.shown {
+            self.surprise("a compare line changed the table or the resolver");
+        }
+        let Some((number, place)) = said else {
+            return self.hit("bad line");
+        };
+        self.hit(&format!("compare {number}"));
+        let length = line.rsplit(|&o| o == b' ').next().map_or(0, <[u8]>::len) as u64 / 2;
+        let is_good = match number {
+            6 => (12..=length).contains(&place),
+            21 => place < length.max(1),
+            18 => place > 0,
+            _ => place == 0,
+        };
+        if !is_good {
+            self.surprise("the place is not as it should be");
         }
     }
 

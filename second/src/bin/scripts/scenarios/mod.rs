@@ -6,6 +6,9 @@ mod batch_keys;
 mod batches;
 mod broken;
 mod closings;
+mod comparing;
+mod comparing_ends;
+mod comparing_lines;
 mod damage;
 mod exchange;
 mod keying;
@@ -116,6 +119,9 @@ pub fn groups() -> Vec<Group> {
     all.extend(mending::groups());
     all.extend(loaded::groups());
     all.extend(listing_lines::groups());
+    all.extend(comparing::groups());
+    all.extend(comparing_ends::groups());
+    all.extend(comparing_lines::groups());
     all
 }
 

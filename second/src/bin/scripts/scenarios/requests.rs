@@ -33,7 +33,7 @@ pub fn groups() -> Vec<Group> {
         },
         Group {
             name: "request in room",
-            weight: 3,
+            weight: 4,
             items: || cross(&KINDS, &ROOMS),
             run: room,
         },

@@ -1,7 +1,7 @@
 -- From what the lower writers leave to the answer of the whole reply, and from that to model's reply. Assumes nothing.
 use Prim.Native.Nat.{ℕ, _+_, _-_, _^_, _≤_, _<_}
 use mathlib.Core.Path.{_≡_, refl, sym, ap, subst, _∙_}
-use mathlib.Core.Bool.{Bool, true, false, cond}
+use mathlib.Core.Bool.{Bool, true, false, cond, false≢true}
 use mathlib.Core.List.{List, []}
 use native.Mathlib.Omega.{arith}
 use borrow.Author.Tests.{le-leb, eqb-true, eqb-false}
@@ -11,7 +11,7 @@ use Rattle.model.specs.declared.Algorithm.{Algorithm}
 use Rattle.model.specs.declared.Span.{Span}
 use Rattle.model.specs.declared.Pair.{Pair}
 use Rattle.model.specs.declared.Decision.{Decision}
-use Rattle.model.specs.declared.Decision.the-variants.{Refused, Failed, Renews}
+use Rattle.model.specs.declared.Decision.the-variants.{Unsigned, Refused, Passed, Failed, Renews, Adopts, Readopts, Deletes, Withdraws}
 use Rattle.model.specs.Octets.{put}
 use Rattle.model.specs.Names.{readName, keyName}
 use Rattle.model.specs.Messages.{Message}
@@ -40,7 +40,7 @@ use Rattle.replies.specs.declared.Grant.{Grant}
 use Rattle.replies.specs.declared.Written.{Written}
 use Rattle.replies.specs.declared.Written.the-variants.{Reply, NoRoom}
 use Rattle.replies.specs.Parts.{framed, repeatedOctets, renewedOctets, grantedOctets, Replied, FieldsIn, EchoIn, Read}
-use Rattle.replies.specs.Written.{answerOf, otherOf, grantOf, outcomeOf, grantBy, renewalFor, renewalOctets, NameOut, Answers, writtenBy, DecisionFits, Replies}
+use Rattle.replies.specs.Written.{isQuiet, answerOf, otherOf, grantOf, outcomeOf, grantBy, renewalFor, renewalOctets, NameOut, Answers, writtenBy, DecisionFits, Replies}
 use Rattle.replies.proofs.Laws.{heading-length, repeated-length, renewed-length, replied-as, replied-room}
 use Rattle.replies.proofs.Joins.{only-tkey, only-key, refused-reply, tkey-reply, readopted-reply, renewed-reply}
 
@@ -213,3 +213,18 @@ module _ {m : List ℕ} {c : Contents} {offer second : List ℕ} {p : Pair} {suf
             rw (hs, hp, ht, ho, hz) refl in
             answers-as (e ∙ renewed-reply x (c .tkey) (only-tkey x) (c .key) (only-key x) h g scheme a ∙ rw is refl) s;
       }
+
+pub quiet-replies :
+    {m : List ℕ} {c : Contents} {offer second : List ℕ} {p : Pair} {suffix : List ℕ} {time : ℕ} (d : Decision) (b : List ℕ)
+    → isQuiet d ≡ true
+    → Replies m c offer second p suffix time d b b (Reply 0)
+unfolding replyOf
+quiet-replies Unsigned b e = none-replies (λ h g q. refl) (answers-none b)
+quiet-replies (Refused rcode error) b e = absurd (false≢true e)
+quiet-replies (Passed skew) b e = none-replies (λ h g q. refl) (answers-none b)
+quiet-replies (Failed error) b e = absurd (false≢true e)
+quiet-replies (Renews scheme a) b e = absurd (false≢true e)
+quiet-replies Adopts b e = absurd (false≢true e)
+quiet-replies Readopts b e = absurd (false≢true e)
+quiet-replies Deletes b e = absurd (false≢true e)
+quiet-replies Withdraws b e = absurd (false≢true e)

@@ -90,6 +90,18 @@ DecisionFits Readopts p time = Unit {0}
 DecisionFits Deletes p time = Unit {0}
 DecisionFits Withdraws p time = Unit {0}
 
+-- It has no reply.
+abbrev pub isQuiet : Decision → Bool
+isQuiet Unsigned = true
+isQuiet (Refused rcode error) = false
+isQuiet (Passed skew) = true
+isQuiet (Failed error) = false
+isQuiet (Renews scheme g) = false
+isQuiet Adopts = false
+isQuiet Readopts = false
+isQuiet Deletes = false
+isQuiet Withdraws = false
+
 -- The answer and the buffer are those of model's reply to the message that was read, whatever holder and call these are the readings of.
 pub record Replies
     (m : List ℕ) (c : Contents) (offer second : List ℕ) (p : Pair) (suffix : List ℕ) (time : ℕ) (d : Decision) (entry exit : List ℕ) (w : Written) : Type 0 where

@@ -20,7 +20,7 @@ ghost use Rattle.octets.specs.Wrote.{Wrote};
 ghost use Rattle.records.specs.Record.{cut, Within};
 ghost use Rattle.contents.specs.Contents.{ContentsRead};
 ghost use Rattle.replies.specs.Parts.{headingFront, headingBack, framed, sizedOctets, recordFront, tkeyFront, dataOf, echoOf, keyData, repeatedOctets, renewedOctets, takesOffer, grantedOctets, repeatedSize, renewedSize, Replied, FieldsIn, EchoIn, Read};
-ghost use Rattle.replies.specs.Written.{answerOf, otherOf, grantOf, outcomeOf, renewalOctets, NameOut, Answers, writtenBy, DecisionFits, Replies};
+ghost use Rattle.replies.specs.Written.{isQuiet, answerOf, otherOf, grantOf, outcomeOf, renewalOctets, NameOut, Answers, writtenBy, DecisionFits, Replies};
 
 // The TKEY that answers: parts of the request, and numbers.
 struct Fields {
@@ -529,8 +529,25 @@ fn renewal<'a>(
     }
 }
 
-// The reply to the message m (01, "The reply"), which says c, by what was decided. Nothing is written where there is no room.
-pub fn reply<'a>(
+// Whether a decision has no reply.
+fn is_quiet(d: Decision) -> bool
+    ensures { λ r. ⌜ r ≡ isQuiet d ⌝ }
+{
+    match d {
+        Decision::Unsigned => true,
+        Decision::Refused { rcode: _, error: _ } => false,
+        Decision::Passed { skew: _ } => true,
+        Decision::Failed { error: _ } => false,
+        Decision::Renews(_, _) => false,
+        Decision::Adopts => false,
+        Decision::Readopts => false,
+        Decision::Deletes => false,
+        Decision::Withdraws => false,
+    }
+}
+
+// The reply of a decision, written by its kind.
+fn write<'a>(
     buf: &mut [u8],
     m: &'a [u8],
     c: Contents,
@@ -554,4 +571,25 @@ pub fn reply<'a>(
         Decision::Deletes => outcome(buf, m, c, 0, false),
         Decision::Withdraws => outcome(buf, m, c, 0, false),
     }
+}
+
+// The reply to the message m (01, "The reply"), which says c, by what was decided. Nothing is written where there is no room. A message that is passed up has no
+// reply: then nothing of what was read is handed on.
+pub fn reply<'a>(
+    buf: &mut [u8],
+    m: &'a [u8],
+    c: Contents,
+    d: Decision,
+    offer: &'a [u8],
+    second: &[u8],
+    suffix: &[u8],
+    at: Moment,
+) -> Written
+    requires { ⌜ ContentsRead (now m) c × DecisionFits d (at .pair) (at .time) × (length (now suffix) ≤ 128) × (length (now offer) ≤ 1024) ⌝ }
+    ensures { λ r. ⌜ Replies (now (m .entry)) c (now (offer .entry)) (now (second .entry)) (at .pair) (now (suffix .entry)) (at .time) d (now (buf .entry)) (now (buf .exit)) r ⌝ }
+{
+    if is_quiet(d) {
+        return Written::Reply(0);
+    }
+    write(buf, m, c, d, offer, second, suffix, at)
 }

@@ -1,6 +1,6 @@
 -- Laws of the message call as the code makes it on a lent table. Assumes nothing.
 use Prim.Native.Nat.{ℕ, zero, suc, _+_, _<_}
-use mathlib.Core.Path.{_≡_, refl, sym, ap, subst, _∙_}
+use mathlib.Core.Path.{_≡_, refl, sym, ap, ap₂, subst, _∙_}
 use mathlib.Core.Bool.{Bool, true, not}
 use mathlib.Core.Option.{Option, none, some}
 use mathlib.Core.List.{List}
@@ -16,14 +16,22 @@ use Rattle.model.specs.Replies.{secondOk}
 use Rattle.model.specs.Calls.{DONE, TABLE, SIZE, OFFER, FORMAT, NOTQUERY, ROOM, KEYREC, Result, refusalAt, refusal, refuses, breaks, unchanged, leaves, sizeOk, offerOk, roomFor, replyTo, replied, answered, messageStep, message, messageOn, timeOf, octetsOwner, ownerOf, stepOf, holderAt, served, bufferAfter, Step as ModelStep}
 use Rattle.model.proofs.Tests.{by-check, by-place}
 use Rattle.model.proofs.CallLaws.{same-row, holderBy, withHeld, buffer-refused, changes-it}
+use Rattle.judging.specs.declared.Who.{Who}
 use Rattle.judging.specs.declared.Who.the-variants.{Pair as Owner}
+use Rattle.judging.specs.Judged.{holderOf}
+use Rattle.searching.specs.declared.Found.{Found}
+use Rattle.searching.specs.declared.Found.the-variants.{Row, Missing}
+use Rattle.searching.specs.Search.{foundRow}
+use Rattle.locating.proofs.Owners.{row-in, row-held}
 use Rattle.step.specs.declared.Step.{Step}
-use Rattle.step.specs.Steps.{Ready, Steps}
+use Rattle.step.specs.declared.After.{After}
+use Rattle.step.specs.declared.After.the-variants.{Same, Changed}
+use Rattle.step.specs.Steps.{Ready, Steps, Settles, pairAfter}
 use Rattle.store.specs.Layout.{tableOf}
 use Rattle.outcomes.specs.Gate.{Open, Entered}
 use Rattle.outcomes.specs.Ends.{Settled}
 use Rattle.outcomes.proofs.Laws.{suffix-short, own-none, own-settled, own-whole, call-refused, call-passed}
-use Rattle.server.specs.Serve.{OwnOf, Answered, AnsweredRest, RowKept}
+use Rattle.server.specs.Serve.{OwnOf, Answered, AnsweredRest, RowKept, FoundIn, ownerAs, suffixAs, KeptBy, Kept}
 
 -- ── A row that was found ────────────────────────────────────────────────────────────────────────────────────────────
 
@@ -39,6 +47,36 @@ pub row-ready :
     → Ready (Owner (i + 1) p) y time
 row-ready w s i h is-p is-y time o =
     record { ruled = record { tested = o .tested; rule = rw is-p (o .rule i h) }; short = rw is-y (suffix-short w s (o .layout) i h); on-time = o .fits }
+
+-- ── What a search found ─────────────────────────────────────────────────────────────────────────────────────────────
+
+pub found-in : (w s m : List ℕ) (f : Found) → octetsOwner (namesOf (tableOf w s)) m ≡ foundRow f → FoundIn (tableOf w s) f
+found-in w s m (Row i) e = row-in w s m i e
+found-in w s m (Missing g) e = tt
+
+pub found-ready :
+    (w s : List ℕ) (f : Found)
+    → FoundIn (tableOf w s) f
+    → {who : Who} {y : List ℕ}
+    → who ≡ ownerAs (tableOf w s) f
+    → y ≡ suffixAs (tableOf w s) f
+    → (time : ℕ)
+    → Open w s time
+    → Ready who y time
+found-ready w s (Row i) h {y = y} is-who is-y time o = subst (λ (who : Who). Ready who y time) (sym is-who) (row-ready w s i h refl is-y time o)
+found-ready w s (Missing g) h {y = y} is-who is-y time o =
+    subst (λ (who : Who). Ready who y time) (sym is-who) (record { ruled = tt; short = rw is-y (omega arith); on-time = o .fits })
+
+pub found-held : (t : Table) (f : Found) {who : Who} {y : List ℕ} → who ≡ ownerAs t f → y ≡ suffixAs t f → holderOf who y ≡ holderBy t (foundRow f)
+found-held t (Row i) is-who is-y = ap₂ holderOf is-who is-y ∙ row-held t i refl refl
+found-held t (Missing g) is-who is-y = ap₂ holderOf is-who is-y
+
+module _ {x : Step} {w s w′ : List ℕ} {a : Answer} where
+  pub kept-row : {f : Found} {i : ℕ} → f ≡ Row i → RowKept i x w s w′ a → Kept f x w s w′ a
+  kept-row e k = record { says = subst (λ (f : Found). KeptBy f x w s w′ a) (sym e) k }
+
+pub kept-none : {x : Step} {w s : List ℕ} {f : Found} {g : ℕ} → f ≡ Missing g → Kept f x w s w (x .answer)
+kept-none {x} {w} {s} e = record { says = subst (λ (f : Found). KeptBy f x w s w (x .answer)) (sym e) (refl, refl) }
 
 -- ── A refusal leaves the pair ───────────────────────────────────────────────────────────────────────────────────────
 
@@ -78,13 +116,31 @@ module _ (h : Holder) where
 -- ── The pair stored ─────────────────────────────────────────────────────────────────────────────────────────────────
 
 module _ (row : ℕ) (x : Step) (w s : List ℕ) where
-  pub keep-refused : (x .answer .number ≡ 0 → ⊥) → RowKept row x w s w (x .answer)
-  unfolding DONE
-  keep-refused z = record { answers = refl; refused = λ _. refl; finished = λ e. absurd (z e); kept = own-none row w }
+  pub keep-same : x .after ≡ Same → RowKept row x w s w (x .answer)
+  keep-same e =
+      record {
+        answers = refl;
+        refused = λ _. refl;
+        finished = λ _. sym (ap (λ (z : After). withPair (tableOf w s) row (pairAfter (pairAt (tableOf w s) row) z)) e ∙ same-row (tableOf w s) row);
+        kept = own-none row w;
+      }
 
-  pub keep-stored : x .answer .number ≡ 0 → {serial : ℕ} {w′ : List ℕ} {a : Answer} → Settled row (x .pair) serial w s w′ a → RowKept row x w s w′ (x .answer)
+  pub keep-stored :
+      {p : Pair}
+      → x .after ≡ Changed p
+      → Settles (x .after) (x .answer .number)
+      → {serial : ℕ} {w′ : List ℕ} {a : Answer}
+      → Settled row p serial w s w′ a
+      → RowKept row x w s w′ (x .answer)
   unfolding DONE
-  keep-stored e st = record { answers = refl; refused = λ z. absurd (z e); finished = λ _. ap (λ (r : Result). r .table) (st .says); kept = own-settled st }
+  keep-stored is z st =
+      let e : x .answer .number ≡ 0 = subst (λ (y : After). Settles y (x .answer .number)) is z in
+      record {
+        answers = refl;
+        refused = λ z. absurd (z e);
+        finished = λ _. ap (λ (r : Result). r .table) (st .says) ∙ sym (ap (λ (z : After). withPair (tableOf w s) row (pairAfter (pairAt (tableOf w s) row) z)) is);
+        kept = own-settled st;
+      }
 
 -- ── The call ────────────────────────────────────────────────────────────────────────────────────────────────────────
 
@@ -93,9 +149,9 @@ module _ (w s m : List ℕ) (given : Given) (b b′ : List ℕ) where
   calls t = served t (message given (length b) m)
 
   module _ (o : Option ℕ) (owner : octetsOwner (namesOf (tableOf w s)) m ≡ o) (h : Holder) (held : h ≡ holderBy (tableOf w s) o) (x : Step)
-      (steps : Steps (messageStep h given (length b) m) b x b′) where
-    its-step : Steps (messageStep (holderBy (tableOf w s) o) given (length b) m) b x b′
-    its-step = subst (λ (h : Holder). Steps (messageStep h given (length b) m) b x b′) held steps
+      (steps : Steps h (messageStep h given (length b) m) b x b′) where
+    its-step : Steps (holderBy (tableOf w s) o) (messageStep (holderBy (tableOf w s) o) given (length b) m) b x b′
+    its-step = subst (λ (h : Holder). Steps h (messageStep h given (length b) m) b x b′) held steps
 
     does : calls (tableOf w s) ≡ record { table = withHeld (tableOf w s) o (messageStep (holderBy (tableOf w s) o) given (length b) m .pair); outcome = messageStep (holderBy (tableOf w s) o) given (length b) m .outcome }
     unfolding ownerOf stepOf
@@ -108,11 +164,11 @@ module _ (w s m : List ℕ) (given : Given) (b b′ : List ℕ) where
     unfolding bufferAfter
     its-buffer = its-step .buffer ∙ sym (ap (λ (r : Result). bufferAfter r b) does)
 
-    its-table : withHeld (tableOf w s) o (x .pair) ≡ calls (tableOf w s) .table
+    its-table : withHeld (tableOf w s) o (pairAfter (heldPair (holderBy (tableOf w s) o)) (x .after)) ≡ calls (tableOf w s) .table
     its-table = ap (withHeld (tableOf w s) o) (its-step .pair) ∙ sym (ap (λ (r : Result). r .table) does)
 
     -- a refusal leaves the pair that the step was handed
-    pub quiet : (x .answer .number ≡ DONE → ⊥) → x .pair ≡ heldPair (holderBy (tableOf w s) o)
+    pub quiet : (x .answer .number ≡ DONE → ⊥) → pairAfter (heldPair (holderBy (tableOf w s) o)) (x .after) ≡ heldPair (holderBy (tableOf w s) o)
     quiet z =
         its-step .pair
         ∙ quiet-message (holderBy (tableOf w s) o) given (length b) m .kept (λ e. z (ap (λ (a : Answer). a .number) (its-step .answer) ∙ e))
@@ -120,7 +176,7 @@ module _ (w s m : List ℕ) (given : Given) (b b′ : List ℕ) where
     not-table : x .answer .number ≡ TABLE → ⊥
     not-table e = quiet-message (holderBy (tableOf w s) o) given (length b) m .passed (sym (ap (λ (a : Answer). a .number) (its-step .answer)) ∙ e)
 
-  pub answered-nobody : (x : Step) (h : Holder) → octetsOwner (namesOf (tableOf w s)) m ≡ none → h ≡ holderBy (tableOf w s) none → Steps (messageStep h given (length b) m) b x b′ → AnsweredRest calls (octetsOwner (namesOf (tableOf w s)) m) w s w b b′ (x .answer)
+  pub answered-nobody : (x : Step) (h : Holder) → octetsOwner (namesOf (tableOf w s)) m ≡ none → h ≡ holderBy (tableOf w s) none → Steps h (messageStep h given (length b) m) b x b′ → AnsweredRest calls (octetsOwner (namesOf (tableOf w s)) m) w s w b b′ (x .answer)
   answered-nobody x h owner held steps =
       record {
         shows = its-table none owner h held x steps;
@@ -132,12 +188,12 @@ module _ (w s m : List ℕ) (given : Given) (b b′ : List ℕ) where
       }
 
   module _ (i : ℕ) (owner : octetsOwner (namesOf (tableOf w s)) m ≡ some i) (h : Holder) (held : h ≡ holderBy (tableOf w s) (some i)) (x : Step)
-      (steps : Steps (messageStep h given (length b) m) b x b′) (w′ : List ℕ) (a : Answer) (k : RowKept i x w s w′ a) where
-    its-pair : (x .answer .number ≡ DONE → ⊥) → x .pair ≡ pairAt (tableOf w s) i
+      (steps : Steps h (messageStep h given (length b) m) b x b′) (w′ : List ℕ) (a : Answer) (k : RowKept i x w s w′ a) where
+    its-pair : (x .answer .number ≡ DONE → ⊥) → pairAfter (pairAt (tableOf w s) i) (x .after) ≡ pairAt (tableOf w s) i
     unfolding holderAt heldPair pairAt
     its-pair z = quiet (some i) owner h held x steps z
 
-    row-table : (n : ℕ) → a .number ≡ n → tableOf w′ s ≡ withPair (tableOf w s) i (x .pair)
+    row-table : (n : ℕ) → a .number ≡ n → tableOf w′ s ≡ withPair (tableOf w s) i (pairAfter (pairAt (tableOf w s) i) (x .after))
     unfolding DONE
     row-table zero e = k .finished e
     row-table (suc n) e =
@@ -147,6 +203,7 @@ module _ (w s m : List ℕ) (given : Given) (b b′ : List ℕ) where
         ∙ sym (ap (withPair (tableOf w s) i) (its-pair z′) ∙ same-row (tableOf w s) i)
 
     pub answered-row : AnsweredRest calls (octetsOwner (namesOf (tableOf w s)) m) w s w′ b b′ a
+    unfolding holderAt heldPair pairAt
     answered-row =
         record {
           shows = row-table (a .number) refl ∙ its-table (some i) owner h held x steps;
@@ -156,6 +213,21 @@ module _ (w s m : List ℕ) (given : Given) (b b′ : List ℕ) where
           passed = λ e. not-table (some i) owner h held x steps (sym (ap (λ (a : Answer). a .number) (k .answers)) ∙ e);
           kept = rw owner (k .kept);
         }
+
+  pub answered-found :
+      (f : Found)
+      → octetsOwner (namesOf (tableOf w s)) m ≡ foundRow f
+      → (h : Holder)
+      → h ≡ holderBy (tableOf w s) (foundRow f)
+      → (x : Step)
+      → Steps h (messageStep h given (length b) m) b x b′
+      → (w′ : List ℕ) (a : Answer)
+      → Kept f x w s w′ a
+      → AnsweredRest calls (octetsOwner (namesOf (tableOf w s)) m) w s w′ b b′ a
+  answered-found (Row i) owner h held x steps w′ a k = answered-row i owner h held x steps w′ a (k .says)
+  answered-found (Missing g) owner h held x steps w′ a k =
+      subst (λ (v : List ℕ). AnsweredRest calls (octetsOwner (namesOf (tableOf w s)) m) w s v b b′ a) (sym (k .says .1))
+      (subst (λ (z : Answer). AnsweredRest calls (octetsOwner (namesOf (tableOf w s)) m) w s w b b′ z) (sym (k .says .0)) (answered-nobody x h owner held steps))
 
 -- ── The whole call ──────────────────────────────────────────────────────────────────────────────────────────────────
 

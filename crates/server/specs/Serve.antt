@@ -1,14 +1,19 @@
 -- What a message call on a lent table ends with: its words are w at entry and w′ at exit, its octets s, its reply buffer b and b′, and it answers a. Assumes
 -- nothing.
-use Prim.Native.Nat.{ℕ}
-use mathlib.Core.List.{List}
+use Prim.Native.Nat.{ℕ, _+_, _<_}
+use mathlib.Core.List.{List, []}
 use mathlib.Core.Option.{Option, none, some}
 use mathlib.Core.Path.{_≡_}
-use lib.ListN.{drop}
+use lib.ListN.{length, drop}
 use Rattle.model.specs.declared.Answer.{Answer}
-use Rattle.model.specs.Tables.{Table, withPair}
+use Rattle.model.specs.Tables.{Table, pairAt, suffixAt, withPair}
 use Rattle.model.specs.Calls.{DONE, TABLE, Result, bufferAfter}
+use Rattle.judging.specs.declared.Who.{Who}
+use Rattle.judging.specs.declared.Who.the-variants.{Nobody, Pair as Owner}
+use Rattle.searching.specs.declared.Found.{Found}
+use Rattle.searching.specs.declared.Found.the-variants.{Row, Missing}
 use Rattle.step.specs.declared.Step.{Step}
+use Rattle.step.specs.Steps.{pairAfter}
 use Rattle.store.specs.Layout.{tableOf}
 use Rattle.outcomes.specs.Ends.{Own}
 
@@ -42,5 +47,28 @@ pub record AnsweredRest (call : Table → Result) (own : Option ℕ) (w s w′ b
 pub record RowKept (row : ℕ) (x : Step) (w s w′ : List ℕ) (a : Answer) : Type 0 where
   pub answers : a ≡ x .answer
   pub refused : (a .number ≡ DONE → ⊥) → w′ ≡ w
-  pub finished : a .number ≡ DONE → tableOf w′ s ≡ withPair (tableOf w s) row (x .pair)
+  pub finished : a .number ≡ DONE → tableOf w′ s ≡ withPair (tableOf w s) row (pairAfter (pairAt (tableOf w s) row) (x .after))
   pub kept : Own row w w′
+
+-- ── What a search found ─────────────────────────────────────────────────────────────────────────────────────────────
+
+abbrev pub FoundIn : Table → Found → Type 0
+FoundIn t (Row row) = row < length (t .rows)
+FoundIn t (Missing place) = Unit {0}
+
+-- The pair of the row, with its number, and its suffix.
+abbrev pub ownerAs : Table → Found → Who
+ownerAs t (Row row) = Owner (row + 1) (pairAt t row)
+ownerAs t (Missing place) = Nobody
+
+abbrev pub suffixAs : Table → Found → List ℕ
+suffixAs t (Row row) = suffixAt t row
+suffixAs t (Missing place) = []
+
+-- After a step on it: of no row, every word is left.
+abbrev pub KeptBy : Found → Step → List ℕ → List ℕ → List ℕ → Answer → Type 0
+KeptBy (Row row) x w s w′ a = RowKept row x w s w′ a
+KeptBy (Missing place) x w s w′ a = (a ≡ x .answer) × (w′ ≡ w)
+
+pub record Kept (found : Found) (x : Step) (w s w′ : List ℕ) (a : Answer) : Type 0 where
+  pub says : KeptBy found x w s w′ a

@@ -5,6 +5,7 @@ use judging::Who;
 use model::Answer;
 use model::Verdicts;
 use searching::Found;
+use step::After;
 use step::Step;
 ghost use mathlib.Core.Path.{_≡_};
 ghost use mathlib.Core.Bool.{true};
@@ -14,24 +15,65 @@ ghost use Rattle.model.specs.Tables.{namesOf, tableRules};
 ghost use Rattle.model.specs.Calls.{message as messageCall, octetsOwner, served, messageOn};
 ghost use Rattle.store.specs.Layout.{layoutRule, tableOf};
 ghost use Rattle.outcomes.specs.Gate.{Open};
-ghost use Rattle.step.specs.Steps.{givenBy};
-ghost use Rattle.server.specs.Serve.{Answered, AnsweredRest, RowKept};
+ghost use Rattle.step.specs.Steps.{givenBy, Settles};
+ghost use Rattle.server.specs.Serve.{Answered, AnsweredRest, RowKept, FoundIn, ownerAs, suffixAs, Kept};
 
-// Stores the pair of a row as a step left it, unless the step was refused.
+// Stores the pair of a row as a step left it, unless the step left it as it was; a refused one does.
 fn keep_row(words: &mut [u64], suffixes: &[u8], row: usize, s: Step) -> Answer
-    requires { ⌜ (layoutRule (now words) (now suffixes) ≡ true) × (row < length (tableOf (now words) (now suffixes) .rows)) ⌝ }
+    requires { ⌜ (layoutRule (now words) (now suffixes) ≡ true) × (row < length (tableOf (now words) (now suffixes) .rows)) × Settles (s .after) (s .answer .number) ⌝ }
     ensures { λ r. ⌜ RowKept row s (now (words .entry)) (now (suffixes .entry)) (now (words .exit)) r ⌝ }
 {
     let a = s.answer;
-    if a.number != 0 {
-        return a;
+    let after = s.after;
+    match after {
+        After::Same => a,
+        After::Changed(p) => {
+            outcomes::settle(words, suffixes, row, p, a.serial);
+            a
+        }
     }
-    let p = s.pair;
-    outcomes::settle(words, suffixes, row, p, a.serial);
-    a
 }
 
-// A message call that passed TABLE, TIME and CLOCK.
+// The pair of the row that a search found, with its number; nobody where it found none.
+fn owner_of(words: &[u64], suffixes: &[u8], found: Found) -> Who
+    requires { ⌜ (layoutRule (now words) (now suffixes) ≡ true) × FoundIn (tableOf (now words) (now suffixes)) found ⌝ }
+    ensures { λ r. ⌜ r ≡ ownerAs (tableOf (now (words .entry)) (now (suffixes .entry))) found ⌝ }
+{
+    match found {
+        Found::Row(row) => {
+            let pair = outcomes::pair_of(words, suffixes, row);
+            Who::Pair {
+                number: row as u64 + 1,
+                pair,
+            }
+        }
+        Found::Missing(_) => Who::Nobody,
+    }
+}
+
+// Its suffix, lent; no octets where it found none.
+fn suffix_of<'a>(words: &[u64], suffixes: &'a [u8], found: Found) -> &'a [u8]
+    requires { ⌜ (layoutRule (now words) (now suffixes) ≡ true) × FoundIn (tableOf (now words) (now suffixes)) found ⌝ }
+    ensures { λ r. ⌜ now r ≡ suffixAs (tableOf (now (words .entry)) (now (suffixes .entry))) found ⌝ }
+{
+    match found {
+        Found::Row(row) => outcomes::suffix_of(words, suffixes, row),
+        Found::Missing(_) => &suffixes[..0],
+    }
+}
+
+// The end of a step on what a search found.
+fn keep(words: &mut [u64], suffixes: &[u8], found: Found, s: Step) -> Answer
+    requires { ⌜ (layoutRule (now words) (now suffixes) ≡ true) × FoundIn (tableOf (now words) (now suffixes)) found × Settles (s .after) (s .answer .number) ⌝ }
+    ensures { λ r. ⌜ Kept found s (now (words .entry)) (now (suffixes .entry)) (now (words .exit)) r ⌝ }
+{
+    match found {
+        Found::Row(row) => keep_row(words, suffixes, row, s),
+        Found::Missing(_) => s.answer,
+    }
+}
+
+// A message call that passed TABLE, TIME and CLOCK. The step is called at one place: the compiler then puts it here, and nothing that was read is copied again.
 fn message_passed<'a>(
     words: &mut [u64],
     suffixes: &[u8],
@@ -47,32 +89,11 @@ fn message_passed<'a>(
         (now (words .entry)) (now (suffixes .entry)) (now (words .exit)) (now (reply .entry)) (now (reply .exit)) r ⌝ }
 {
     let reading = contents::read(m);
-    match locating::row_read(words, suffixes, m, reading) {
-        Found::Row(row) => {
-            let pair = outcomes::pair_of(words, suffixes, row);
-            let suffix = outcomes::suffix_of(words, suffixes, row);
-            let who = Who::Pair {
-                number: row as u64 + 1,
-                pair,
-            };
-            let s = step::message_step(m, reading, who, suffix, verdicts, offer, second, reply);
-            keep_row(words, suffixes, row, s)
-        }
-        Found::Missing(_) => {
-            let none = &m[..0];
-            let s = step::message_step(
-                m,
-                reading,
-                Who::Nobody,
-                none,
-                verdicts,
-                offer,
-                second,
-                reply,
-            );
-            s.answer
-        }
-    }
+    let found = locating::row_read(words, suffixes, m, reading);
+    let who = owner_of(words, suffixes, found);
+    let suffix = suffix_of(words, suffixes, found);
+    let s = step::message_step(m, reading, who, suffix, verdicts, offer, second, reply);
+    keep(words, suffixes, found, s)
 }
 
 // The message call on a table that keeps the rules: all of it but TABLE.

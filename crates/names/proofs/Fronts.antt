@@ -5,11 +5,14 @@ use mathlib.Core.List.{List, [], _∷_, _++_}
 use mathlib.Core.Bool.{Bool, true, _&&_}
 use native.Mathlib.Omega.{arith}
 use borrow.Author.Tests.{eqb-true, eq-eqb}
+use lib.Dec.{eqb}
 use lib.ListN.{length, take, drop, getD, take-append-drop}
 use lib.Seq.{take-suc, take-take, take-all}
-use Rattle.model.specs.Names.{lowerOf, sameName}
+use Rattle.model.specs.declared.Algorithm.{Algorithm}
+use Rattle.model.specs.declared.Algorithm.the-variants.{Sha256, Sha384, Sha512}
+use Rattle.model.specs.Names.{lowerOf, sameName, algorithmName}
 use Rattle.model.proofs.Tests.{left, right}
-use Rattle.names.specs.Fronts.{sameAt, sameEight}
+use Rattle.names.specs.Fronts.{sameAt, sameEight, isSpelt}
 
 module _ (a b : List ℕ) (i : ℕ) (ha : i + 8 ≤ length a) (hb : i + 8 ≤ length b) where
   -- one octet more, where a test says that it is the same
@@ -51,3 +54,36 @@ pub same-after : (a b : List ℕ) (n : ℕ) → take n a ≡ take n b → sameNa
 same-after a b n e =
     ap₂ sameName (sym (take-append-drop n a)) (sym (take-append-drop n b) ∙ ap (λ (p : List ℕ). p ++ drop n b) (sym e))
     ∙ after (take n a) (drop n a) (drop n b)
+
+-- a name of 13 octets that is spelt as an algorithm's is that name
+module _ (a : List ℕ) (x y z : ℕ) (size : length a ≡ 13) where
+  abbrev spelt : List ℕ
+  spelt = 11 ∷ 104 ∷ 109 ∷ 97 ∷ 99 ∷ 45 ∷ 115 ∷ 104 ∷ 97 ∷ x ∷ y ∷ z ∷ 0 ∷ []
+
+  one : (t : Bool) (k n c : ℕ) → k < 13 → n ≡ suc k → getD spelt k 0 ≡ c → (t ≡ true → take k a ≡ take k spelt) → (t && eqb (getD a k 0) c) ≡ true → take n a ≡ take n spelt
+  one t k n c h i is front e =
+      let same : getD a k 0 ≡ getD spelt k 0 = eqb-true (getD a k 0) c (right t (eqb (getD a k 0) c) e) ∙ sym is in
+      rw (i, take-suc a k 0 (omega arith), take-suc spelt k 0 h) (ap₂ (λ (u : List ℕ) (v : ℕ). u ++ (v ∷ [])) (front (left t (eqb (getD a k 0) c) e)) same)
+
+  pub spelt-is : isSpelt a x y z ≡ true → a ≡ spelt
+  spelt-is e =
+      sym (take-all 13 a (omega arith))
+      ∙ one _ 12 13 _ (omega arith) refl refl
+      (one _ 11 12 _ (omega arith) refl refl
+      (one _ 10 11 _ (omega arith) refl refl
+      (one _ 9 10 _ (omega arith) refl refl
+      (one _ 8 9 _ (omega arith) refl refl
+      (one _ 7 8 _ (omega arith) refl refl
+      (one _ 6 7 _ (omega arith) refl refl
+      (one _ 5 6 _ (omega arith) refl refl
+      (one _ 4 5 _ (omega arith) refl refl
+      (one _ 3 4 _ (omega arith) refl refl
+      (one _ 2 3 _ (omega arith) refl refl
+      (one _ 1 2 _ (omega arith) refl refl
+      (one true 0 1 _ (omega arith) refl refl (λ _. refl))))))))))))) e
+
+pub thirteen : (g : Algorithm) → length (algorithmName g) ≡ 13
+unfolding algorithmName
+thirteen Sha256 = refl
+thirteen Sha384 = refl
+thirteen Sha512 = refl

@@ -88,8 +88,9 @@ fn message_passed<'a>(
         (octetsOwner (namesOf (tableOf (now (words .entry)) (now (suffixes .entry)))) (now (m .entry)))
         (now (words .entry)) (now (suffixes .entry)) (now (words .exit)) (now (reply .entry)) (now (reply .exit)) r ⌝ }
 {
-    let reading = contents::read(m);
-    let found = locating::row_read(words, suffixes, m, reading);
+    let message = &m[..]; // its two words: copied as one of 16 octets, they would wait for the stores that made them
+    let reading = contents::read(message);
+    let found = locating::row_read(words, suffixes, message, reading);
     let who = owner_of(words, suffixes, found);
     let suffix = suffix_of(words, suffixes, found);
     let s = step::message_step(m, reading, who, suffix, verdicts, offer, second, reply);

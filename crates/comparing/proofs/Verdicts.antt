@@ -17,6 +17,7 @@ use Rattle.model.proofs.Tests.{both, and-false}
 use Rattle.messages.specs.declared.Outline.{Outline}
 use Rattle.messages.specs.declared.Outline.the-variants.{Bad, Whole}
 use Rattle.messages.specs.declared.Seen.{Seen}
+use Rattle.messages.specs.declared.Last.{Last}
 use Rattle.messages.specs.Scan.{Scanned}
 
 -- ── Of allowed size ─────────────────────────────────────────────────────────────────────────────────────────────────
@@ -27,7 +28,7 @@ module _ (ours theirs : List ℕ) (v : Verdict) where
     unfolding FORMAT
     scan-fails place e is = let s : readMessage theirs ≡ stops place = rw e at scan in rw s is
 
-    module _ (end : ℕ) (request : Bool) (seen : Seen) (e : o ≡ Whole end request seen) where
+    module _ (end : ℕ) (request : Bool) (seen : Seen) (last : Last) (e : o ≡ Whole end request seen last) where
       pub scan-same : firstDifference ours theirs ≡ none → v ≡ verdict 0 0 → v ≡ byReading ours theirs (readMessage theirs)
       unfolding DONE
       scan-same f is = let w = rw e at scan in rw (w .says, f) is

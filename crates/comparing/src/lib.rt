@@ -388,6 +388,7 @@ fn compare_sized(ours: &[u8], theirs: &[u8]) -> Verdict
             end: _,
             request: _,
             seen: _,
+            last: _,
         } => match first_difference(ours, theirs) {
             Difference::Nothing => verdict_of(0, 0),
             Difference::At(place) => verdict_of(21, place),

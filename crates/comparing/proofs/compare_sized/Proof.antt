@@ -43,7 +43,7 @@ returns-2 c =
     let at-first-difference = c .before .before .before in
     let at-enum-told = at-first-difference .before in
     let at-scan = at-enum-told .before .before in
-    scan-same _ _ _ (at-scan .scan .result) (at-scan .scan .ensures) _ _ _ (at-enum-told .enum-told .given .1)
+    scan-same _ _ _ (at-scan .scan .result) (at-scan .scan .ensures) _ _ _ _ (at-enum-told .enum-told .given .1)
     (at-first-difference .first-difference .ensures ∙ ap shown (c .before .enum-told2 .given .1)) (c .verdict-of2 .ensures)
 
 returns-3 : tie.Need-returns-3
@@ -51,7 +51,7 @@ returns-3 c =
     let at-first-difference = c .before .before .before .before in
     let at-enum-told = at-first-difference .before in
     let at-scan = at-enum-told .before .before in
-    scan-differs _ _ _ (at-scan .scan .result) (at-scan .scan .ensures) _ _ _ (at-enum-told .enum-told .given .1) _
+    scan-differs _ _ _ (at-scan .scan .result) (at-scan .scan .ensures) _ _ _ _ (at-enum-told .enum-told .given .1) _
     (at-first-difference .first-difference .ensures ∙ ap shown (c .before .before .place2 .given .1)) (c .verdict-of3 .ensures)
 
 pub compare-sized-spec : {M : Type 1} → statement M

@@ -1,4 +1,6 @@
 // The TKEY of a reply (RFC 2930, 2; 02, CR 1): reads what a pass over the answer section kept the place of.
+#![tactic(auto)]
+
 ghost use Rattle.std.specs.Prelude.{◌+◌, ◌≤◌, length};
 ghost use Rattle.answers.specs.Answer.{FieldsRead, RecordRead, AnswerRead};
 
@@ -8,7 +10,7 @@ use records::Found;
 use tkey::Layout;
 
 // The fields of a TKEY that the resolver looks at. Its algorithm's name is a part of the message.
-#[derive(Drop)]
+#[derive(Clone, Copy)]
 pub struct AnswerFields {
     pub algorithm: Span,
     pub inception: u32,
@@ -18,7 +20,7 @@ pub struct AnswerFields {
 }
 
 // The only TKEY of the answer section: there is none, or it is ill formed; or its owner name has `name` octets in the lent array.
-#[derive(Drop)]
+#[derive(Clone, Copy)]
 pub enum AnswerFound {
     Nothing,
     One { name: usize, fields: AnswerFields },

@@ -1,6 +1,8 @@
 // What a TKEY request asks for (RFC 2930, 2; document 002, 2.3.4; 02, CR 10), for a caller who must make its offer before the message call: mode, algorithm, times,
 // key data, and the data of the KEY record. All octets are accepted. The contract is an equation with the crate model's Inquiries; what lies in the message is
 // told as a part of it.
+#![tactic(auto)]
+
 ghost use Rattle.std.specs.Prelude.{◌≡◌, List, ℕ};
 ghost use Rattle.std.proofs.Math.Option.{some};
 ghost use Rattle.model.specs.Inquiries.{unasked_at, number_named, asks_with, asks_by, asks_of};
@@ -15,7 +17,7 @@ use tkey::{OnlyKey, OnlyTkey, TkeyFields};
 
 // What a message asks for: the number, and the place where reading failed, beside FORMAT; the TKEY's mode (0 where nothing is asked), algorithm (256, 384 or 512,
 // or 0 for any other), times and key data; and, if `keyed`, the data of the only KEY record of the additional section.
-#[derive(Drop)]
+#[derive(Clone, Copy)]
 pub struct Asked {
     pub number: u64,
     pub place: u64,
@@ -29,7 +31,7 @@ pub struct Asked {
 }
 
 // The KEY record's data, if there is one.
-#[derive(Drop)]
+#[derive(Clone, Copy)]
 struct KeyData {
     keyed: bool,
     content: Span,

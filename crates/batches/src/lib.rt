@@ -1,5 +1,7 @@
 // A batch of messages on a lent table (02, CR 4): TABLE and BATCH once, then the message calls of its items in turn, each reply laid behind the one before. Every
 // value of every argument is accepted. The contract is an equation with the crate model's Batches, on the table that the lent words and octets show.
+#![tactic(auto)]
+
 ghost use Rattle.std.specs.Prelude.{◌≡◌, true, ◌&&◌, List, ℕ, ◌+◌, ◌*◌, ◌-◌, ◌≤◌, leb, length};
 ghost use Rattle.model.specs.Tables.{table_rules};
 ghost use Rattle.model.specs.Calls.{called};

@@ -2,6 +2,8 @@
 // value of every argument, writes its answer in seven words (number, length, TSIG error, skew, pair, serial, place; a batch writes its items') and returns the
 // number. The table lies in 1091 words and 8192 octets (store/specs/Layout.antt); where they hold none, every call but a new table is TABLE (1). TABLE changes
 // nothing of what is lent; every other refusal sets at most the clock. The inquiries beside them take no time, leave the table and answer into words of their own.
+#![tactic(auto)]
+
 ghost use Rattle.std.specs.Prelude.{List, [], ◌∷◌, ◌≡◌, ℕ, ◌-◌, length, length as octets_in};
 ghost use Rattle.model.specs.Tables.{names_of};
 ghost use Rattle.model.specs.Calls.{enrol_on, close_on, issue_on, revoke_on, look_on, message_on, octets_owner};

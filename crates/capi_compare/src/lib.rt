@@ -1,4 +1,6 @@
 // Another server's reply judged, for C and Rust to link (02, CR 12). Every value of every argument is accepted.
+#![tactic(auto)]
+
 ghost use Rattle.model.specs.Compare.{compare_on};
 ghost use Rattle.capi_compare.specs.Told.{handed, Told};
 

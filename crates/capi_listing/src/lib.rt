@@ -1,5 +1,7 @@
 // The table as text, for C and Rust to link (02, CR 7): list, load and mend over a lent table. include/luffcringle.h declares them. Each takes every value of
 // every argument and returns its number; a refusal changes nothing that is lent but its own words, which are 0 beside it (but for the line beside LINE).
+#![tactic(auto)]
+
 ghost use Rattle.store.specs.Layout.{table_of};
 ghost use Rattle.capi_listing.specs.Told.{ListedTold, EndTold, MendingTold, ListLent, LoadLent, MendLent};
 

@@ -1,6 +1,8 @@
 // The resolver's half of the exchange (02, CR 1), for C and Rust to link: numbers, lent arrays and lent slices alone. Each call takes every value of every
 // argument and returns its number: 0 done, 1 LOST, 2 WRONGID, 3 UNSIGNED, 4 FORMAT, 5 ROOM, 6 NOKEY. The state lies in 12 words and 510 octets
 // (resolver_state's specs/State.antt), and every content of them is one. A refusal changes no word and no octet of it.
+#![tactic(auto)]
+
 ghost use Rattle.std.specs.Prelude.{◌≡◌, [], ◌∷◌, ◌≤◌, length};
 ghost use Rattle.model.specs.Resolver.{noted, written_renewal, written_adoption, written_deletion, read_reply};
 ghost use Rattle.model.specs.Granted.{key_named, starting_with, held, numbered_renewal, granted_data};

@@ -1,6 +1,8 @@
 // The signing calls, for C and Rust to link: numbers, lent arrays and lent slices alone. include/luffcringle.h declares them. Each takes every value of
 // every argument and returns its number. What it writes fills the first octets of `out`, as many as the word in `written` says; the rest keep their contents. A
 // refusal writes none and says 0 there. No MAC is calculated here: a caller has it over the octets that a digest call writes.
+#![tactic(auto)]
+
 ghost use Rattle.std.specs.Prelude.{◌≡◌, List, ℕ, length};
 ghost use Rattle.model.specs.Signing.{digested_request, digested_reply, finished_in, removed_in};
 ghost use Rattle.model.specs.Received.{received_request, received_reply, received_later, digested_later};

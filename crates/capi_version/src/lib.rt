@@ -1,4 +1,6 @@
 // The version of the archives, as include/luffcringle.h numbers it: 10,000 times the first number, 100 times the second, and the third. A test compares the two.
+#![tactic(auto)]
+
 ghost use Rattle.std.specs.Prelude.{◌≡◌};
 
 #[unsafe(no_mangle)]

@@ -1,4 +1,6 @@
 // Another server's reply compared with ours (02, CR 12), field by field in wire order, where the two lie: in loops, with no array and no recursion.
+#![tactic(auto)]
+
 ghost use Rattle.std.specs.Prelude.{◌≡◌, ℕ, ◌+◌, ◌≤◌, ◌<◌, ◌^◌, length, drop};
 ghost use Rattle.model.specs.Octets.{u16_at, part};
 ghost use Rattle.model.specs.Names.{read_plain};
@@ -12,7 +14,7 @@ use messages::Outline;
 use model::Verdict;
 
 // What comparing fields gives: none differs; or the first that does stands at this place of theirs.
-#[derive(Drop)]
+#[derive(Clone, Copy)]
 enum Difference {
     Nothing,
     At(usize),
@@ -158,7 +160,7 @@ fn data_fields(kind: usize, c: &[u8], d: &[u8], base: usize) -> Difference
 // ── A question, a record ────────────────────────────────────────────────────────────────────────────────────────────
 
 // Whether a question or a record stands at a place; if so, the place behind its name.
-#[derive(Drop)]
+#[derive(Clone, Copy)]
 enum Stands {
     Nothing,
     Behind(usize),
@@ -196,7 +198,7 @@ fn record_at(m: &[u8], at: usize) -> Stands
 }
 
 // What comparing questions or records gives: a field differs; neither reply has a field more; or all are the same, and the replies go on at these places.
-#[derive(Drop)]
+#[derive(Clone, Copy)]
 enum Walk {
     Differs(usize),
     Ends,

@@ -1,4 +1,6 @@
 // The octets under a TSIG's MAC, and its data (02, CR 3; RFC 8945, 4.2 and 4.3), into the lent buffer. A writer takes the place and answers the next one.
+#![tactic(auto)]
+
 ghost use Rattle.std.specs.Prelude.{◌≡◌, List, ◌++◌, ℕ, ◌+◌, ◌-◌, ◌≤◌, ◌<◌, ◌^◌, length};
 ghost use Rattle.model.specs.Octets.{be16, be48, part};
 ghost use Rattle.model.specs.Signing.{tsig_data, canonical, variables, request_digest};
@@ -6,7 +8,7 @@ ghost use Rattle.octets.specs.Wrote.{Wrote};
 ghost use Rattle.digests.specs.Stamps.{stamp_of};
 
 // What a TSIG says besides its names, its MAC and its other data.
-#[derive(Drop)]
+#[derive(Clone, Copy)]
 pub struct TsigNumbers {
     pub signed: u64,
     pub fudge: u16,
@@ -15,7 +17,7 @@ pub struct TsigNumbers {
 }
 
 // What a call over these writers returns: its number, and how many octets it wrote.
-#[derive(Drop)]
+#[derive(Clone, Copy)]
 pub struct Assembly {
     pub number: u64,
     pub length: u64,

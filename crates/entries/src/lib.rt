@@ -1,4 +1,6 @@
 // What the lines of one pair of a listing say, line by line, and whether its row is kept (02, CR 7).
+#![tactic(auto)]
+
 ghost use Rattle.std.specs.Prelude.{true, ◌≡◌, ◌≤◌, length};
 ghost use Rattle.std.proofs.Math.Option.{none, some};
 ghost use Rattle.model.specs.Loading.{says, drops, judged};
@@ -11,7 +13,7 @@ use model::{Keys, Pair, Stated};
 use searching::Found;
 
 // The lines of a pair so far: one does not read; or all do, the suffix has so many octets, and its keys are in the wrong number or order, or the pair is this.
-#[derive(Drop)]
+#[derive(Clone, Copy)]
 pub enum Open {
     Unread,
     Wrong(usize),
@@ -19,19 +21,19 @@ pub enum Open {
 }
 
 // Whether a row is kept: at this place of the order, with a suffix of so many octets; or dropped for this reason.
-#[derive(Drop)]
+#[derive(Clone, Copy)]
 pub enum Judgement {
     Keeps(usize, usize, Pair),
     Drops(u64),
 }
 
-#[derive(Drop)]
+#[derive(Clone, Copy)]
 enum Keyed {
     Is(Keys),
     Wrong,
 }
 
-#[derive(Drop)]
+#[derive(Clone, Copy)]
 enum Placed {
     At(usize),
     Drops(u64),

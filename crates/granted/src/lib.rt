@@ -1,4 +1,6 @@
 // The key data that a granted renewal brings (02, CR 1): where it stands in the reply. The message is read as resolver_replies reads it, in the same order.
+#![tactic(auto)]
+
 ghost use Rattle.std.specs.Prelude.{◌≡◌, ◌≤◌, length};
 ghost use Rattle.model.specs.Granted.{granted_data};
 ghost use Rattle.records.specs.Record.{Within};
@@ -12,7 +14,7 @@ use tkey::Layout;
 use tsig::Signer;
 
 // The key data of a granted renewal: there is none; or it is a part of the message.
-#[derive(Drop)]
+#[derive(Clone, Copy)]
 pub enum KeyData {
     Nothing,
     At(Span),

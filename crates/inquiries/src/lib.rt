@@ -2,6 +2,8 @@
 // what a call did to its keys.
 // Every value of every argument is accepted, lent slices of any length included; an inquiry ends with an answer or a refusal of its list, takes no time and
 // changes nothing. The contracts are equations with the crate model's Inquiries, on the table that the lent words and octets show.
+#![tactic(auto)]
+
 ghost use Rattle.std.specs.Prelude.{true, cond, ◌≡◌, ◌<◌, ◌≤◌, ◌^◌, max, eqb, ◌++◌, length, take};
 ghost use Rattle.model.specs.Names.{key_name, after_label};
 ghost use Rattle.model.specs.Tables.{table_rules};
@@ -13,7 +15,7 @@ use model::{FoundPair, Keys, Moves, Pair, ShownPair};
 use searching::Found;
 
 // What an inquiry that writes octets returns: its number, and how many it wrote.
-#[derive(Drop)]
+#[derive(Clone, Copy)]
 pub struct Spelling {
     pub number: u64,
     pub length: u64,

@@ -1,5 +1,7 @@
 // The lines of a listing, read (02, CR 7). A reader goes from field to field by the place of the separator, the tab before a field or the newline that ends the
 // line; each step answers what the field says and the place of the next separator.
+#![tactic(auto)]
+
 ghost use Rattle.std.specs.Prelude.{◌≡◌, ◌≤◌, ◌<◌, [], ◌∷◌, length, drop};
 ghost use Rattle.model.specs.Text.{is_word};
 ghost use Rattle.model.specs.Lines.{is_key_line, plain_number, is_adopted, algorithm_said, suffix_said, read_clock, read_key};
@@ -11,60 +13,60 @@ use model::{Algorithm, Clocked, Key, Keys, Pair, Stated};
 use words::{Number, Octets};
 
 // What a line says as the first line, as a pair's and as a key's; or it does not read.
-#[derive(Drop)]
+#[derive(Clone, Copy)]
 pub enum ClockLine {
     Is(Clocked),
     Unread,
 }
 
 // A pair that has no keys yet; its suffix has so many octets.
-#[derive(Drop)]
+#[derive(Clone, Copy)]
 pub enum PairLine {
     Is(usize, Pair),
     Unread,
 }
 
-#[derive(Drop)]
+#[derive(Clone, Copy)]
 pub enum KeyLine {
     Is(Stated),
     Unread,
 }
 
 // The place of a separator.
-#[derive(Drop)]
+#[derive(Clone, Copy)]
 enum Place {
     At(usize),
     None,
 }
 
 // What a field says, and the place of the separator behind it.
-#[derive(Drop)]
+#[derive(Clone, Copy)]
 enum NumberField {
     Is(u64, usize),
     None,
 }
 
-#[derive(Drop)]
+#[derive(Clone, Copy)]
 enum StateField {
     Is(bool, usize),
     None,
 }
 
-#[derive(Drop)]
+#[derive(Clone, Copy)]
 enum AlgorithmField {
     Is(Algorithm, usize),
     None,
 }
 
 // How many octets a suffix has.
-#[derive(Drop)]
+#[derive(Clone, Copy)]
 enum SuffixField {
     Is(usize, usize),
     None,
 }
 
 // The last three fields of a line: a pair's next serial, lifetime and fresh period, or a key's three times.
-#[derive(Drop)]
+#[derive(Clone, Copy)]
 enum Numbers {
     Are(u64, u64, u64),
     None,

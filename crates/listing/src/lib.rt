@@ -1,4 +1,6 @@
 // The table as lines of text (02, CR 7).
+#![tactic(auto)]
+
 ghost use Rattle.std.specs.Prelude.{◌≡◌, true, [], ◌∷◌, ◌++◌, ◌+◌, ◌*◌, ◌≤◌, leb, length};
 ghost use Rattle.model.specs.Tables.{table_rules};
 ghost use Rattle.model.specs.Text.{numeral, parted_by};
@@ -10,7 +12,7 @@ ghost use Rattle.listing.specs.Listed.{Lists};
 use model::{Key, Keys, Pair};
 
 // The listing's text, so many octets at the front of the buffer; or the table breaks a rule; or the listing is longer than the buffer.
-#[derive(Drop)]
+#[derive(Clone, Copy)]
 pub enum Listed {
     Text(usize),
     Broken,

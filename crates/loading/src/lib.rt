@@ -1,4 +1,6 @@
 // A listing read into a lent table (02, CR 7): loaded whole, or mended.
+#![tactic(auto)]
+
 ghost use Rattle.std.specs.Prelude.{true, ◌≡◌, [], ◌∷◌, ◌+◌, ◌≤◌, ◌<◌, length, drop};
 ghost use Rattle.model.specs.Lines.{lines_of, is_key_line};
 ghost use Rattle.model.specs.Loading.{reads_as, unread_from, first_unread, dropped_from, clocked_rule, no_rule, mend as mendOf};
@@ -13,7 +15,7 @@ use lines::{ClockLine, KeyLine, PairLine};
 use model::Clocked;
 
 // The pair that is open: the number of its first line, how many lines it has so far and what they say; and how many lines were dropped before it.
-#[derive(Drop)]
+#[derive(Clone, Copy)]
 pub struct Walk {
     pub first: usize,
     pub lines: usize,
@@ -22,14 +24,14 @@ pub struct Walk {
 }
 
 // How loading ends: its number, and the line that does not read, from 1, beside LINE.
-#[derive(Drop)]
+#[derive(Clone, Copy)]
 pub struct Ended {
     pub number: u64,
     pub line: u64,
 }
 
 // How mending ends: its number, the line beside LINE, and how many lines were dropped.
-#[derive(Drop)]
+#[derive(Clone, Copy)]
 pub struct Mending {
     pub number: u64,
     pub line: u64,
@@ -37,7 +39,7 @@ pub struct Mending {
 }
 
 // What a text was read as: LINE, TABLE or 0, and how many lines were dropped.
-#[derive(Drop)]
+#[derive(Clone, Copy)]
 pub struct Read {
     pub number: u64,
     pub dropped: usize,

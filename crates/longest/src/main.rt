@@ -1,5 +1,7 @@
 // Reads the two names that ask most of the name reader: the longest chain of pointers, and the deepest name, of labels and pointers by turns. Standard
 // input that begins with 'c' asks for the chain alone, with 'd' for the deepest name alone, and with anything else for neither; empty, for both.
+#![tactic(auto)]
+
 use compression::Got;
 use libc::{STDIN_FILENO, STDOUT_FILENO};
 

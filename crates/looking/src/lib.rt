@@ -1,6 +1,8 @@
 // Look, the call on a lent table that tells whose key a message names (document 01, "The desk's business"): gate, read, find, step. Every value of every argument
 // is accepted, lent slices of any length included; the call ends with an answer or a refusal of its list, and changes nothing. The contract is an equation with
 // the crate model's Calls, on the table that the lent words and octets show.
+#![tactic(auto)]
+
 ghost use Rattle.std.specs.Prelude.{◌≡◌};
 ghost use Rattle.model.specs.Calls.{look as lookCall, served, look_on};
 ghost use Rattle.store.specs.Layout.{table_of};

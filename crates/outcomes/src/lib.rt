@@ -1,5 +1,7 @@
 // What the calls on a lent table share (document 01, "The desk's business"): their ends, the refusals that come first, the pair of a row, and what the numbers
 // that an operator gives stand for. Nothing here or above says where a row lies.
+#![tactic(auto)]
+
 ghost use Rattle.std.specs.Prelude.{true, ◌&&◌, ◌≡◌, leb, length, ◌<◌};
 ghost use Rattle.model.specs.Names.{algorithm_numbered};
 ghost use Rattle.model.specs.Tables.{suffix_at, pair_at, table_rules};

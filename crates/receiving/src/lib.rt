@@ -1,5 +1,7 @@
 // The octets under the MAC of a message as it was received, straight from it (RFC 8945, 4.3 and 5.3.1), and its TSIG with the names written out. Every value of
 // every argument is accepted. The contracts are equations with the crate model's Received and Signing.
+#![tactic(auto)]
+
 ghost use Rattle.std.specs.Prelude.{◌≡◌, ◌+◌, ◌≤◌, ◌<◌, length};
 ghost use Rattle.model.specs.Signing.{with_id, request_digest, removed};
 ghost use Rattle.model.specs.Received.{in_room, received_request, received_reply, received_later};
@@ -215,7 +217,7 @@ pub fn received_later(prior: &[u8], before: &[u8], m: &[u8], out: &mut [u8]) -> 
 
 // The TSIG of a message: the call's number; how many octets of the two lent arrays are its names; its numbers; and where its MAC and its other data stand in
 // the message. All but the number are 0 where it is refused.
-#[derive(Drop)]
+#[derive(Clone, Copy)]
 pub struct TsigParts {
     pub number: u64,
     pub named: u64,

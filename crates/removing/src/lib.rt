@@ -1,4 +1,6 @@
 // Closing in a store (02, CR 9): the places above the closed row's own move down by one, the map and the row numbers follow them, and the floor rises.
+#![tactic(auto)]
+
 ghost use Rattle.std.specs.Prelude.{true, ◌≡◌, ◌+◌, ◌≤◌, ◌<◌, max, length};
 ghost use Rattle.store.specs.Layout.{count_of, layout_rule};
 ghost use Rattle.removing.specs.Remove.{down_from, MovedDown, Remapped, Renumbered, Closed, Headed, Removed};

@@ -1,6 +1,8 @@
 // Replays a script of calls: each line of standard input is done to the table, to the resolver, or to octets alone, and its result printed (docs/SCRIPT.md), in
 // constant memory. What is printed is tested, not proved. The first failure of reading or writing ends the run: a line that was cut off is not done, nothing
 // more is printed, and standard error says what failed.
+#![tactic(auto)]
+
 mod batch_lines;
 mod compare_lines;
 mod listing_lines;
@@ -17,7 +19,7 @@ use script::{Call, Command};
 
 // The run so far: the resolver, the number of the line that is being read, how many octets of it are kept, and whether the run goes on. The table lies in
 // words and octets beside it.
-#[derive(Drop)]
+#[derive(Clone, Copy)]
 struct Run {
     resolver: Resolver,
     number: u64,
@@ -26,7 +28,7 @@ struct Run {
 }
 
 // The resolver that a command leaves, and how many octets it printed.
-#[derive(Drop)]
+#[derive(Clone, Copy)]
 struct Done {
     resolver: Resolver,
     length: usize,
@@ -110,7 +112,7 @@ fn end_line(
 }
 
 // What was taken of the input: how many octets of the line are kept, the place behind what was taken, and whether the line ends there.
-#[derive(Drop)]
+#[derive(Clone, Copy)]
 struct Taken {
     used: usize,
     next: usize,
@@ -179,7 +181,7 @@ fn go_on(on: bool, at: usize, next: usize, end: usize) -> usize
 }
 
 // The run, and the place in the input to go on from.
-#[derive(Drop)]
+#[derive(Clone, Copy)]
 struct Fed {
     run: Run,
     next: usize,
@@ -248,7 +250,7 @@ fn finish(
 }
 
 // The run, and what reading on answered.
-#[derive(Drop)]
+#[derive(Clone, Copy)]
 struct Read {
     run: Run,
     got: isize,

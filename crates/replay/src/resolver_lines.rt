@@ -6,7 +6,7 @@ use model::{
 use script::{Args, ResolverCall};
 
 // The resolver that a line leaves, and how many octets were printed.
-#[derive(Drop)]
+#[derive(Clone, Copy)]
 pub struct ResolverLine {
     pub state: Resolver,
     pub length: usize,

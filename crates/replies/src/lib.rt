@@ -1,4 +1,6 @@
 // Replies (01, "The reply"), length first, into the lent buffer. A writer takes the place and answers the next one.
+#![tactic(auto)]
+
 ghost use Rattle.std.specs.Prelude.{◌≡◌, [], ◌∷◌, ◌+◌, ◌-◌, ◌*◌, ◌^◌, ◌≤◌, ◌<◌, length};
 ghost use Rattle.model.specs.Octets.{be16};
 ghost use Rattle.model.specs.Messages.{opcode_of, desired_of};
@@ -15,7 +17,7 @@ use model::{Decision, Pair, Scheme, Span};
 use tkey::{KeyFields, OnlyKey, OnlyTkey, TkeyFields};
 
 // The TKEY that answers: parts of the request, and numbers.
-#[derive(Drop)]
+#[derive(Clone, Copy)]
 struct Fields {
     pub algorithm: Span,
     pub inception: usize,
@@ -27,7 +29,7 @@ struct Fields {
 }
 
 // The answer to a granted renewal but for its names and its key data: where the questions end, how many answers it has, the TKEY, and the KEY that is echoed.
-#[derive(Drop)]
+#[derive(Clone, Copy)]
 struct Grant {
     pub end: usize,
     pub answers: usize,
@@ -36,7 +38,7 @@ struct Grant {
 }
 
 // What is new in a granted renewal: the pair as it is, and the time.
-#[derive(Drop)]
+#[derive(Clone, Copy)]
 pub struct Moment {
     pub pair: Pair,
     pub time: u64,
@@ -379,7 +381,7 @@ fn grant_reply<'a>(
 }
 
 // What the writer of a reply answers: how many octets it has, 0 where there is none; or that there is no room for it.
-#[derive(Drop)]
+#[derive(Clone, Copy)]
 pub enum Written {
     Reply(usize),
     NoRoom,

@@ -1,4 +1,6 @@
 // The resolver's requests (02, CR 1; 002, 2.3 to 2.5): their octets, into the lent buffer. A writer takes the place and answers the next one.
+#![tactic(auto)]
+
 ghost use Rattle.std.specs.Prelude.{◌≡◌, ◌+◌, ◌≤◌, ◌<◌, length};
 ghost use Rattle.model.specs.Names.{algorithm_name};
 ghost use Rattle.model.specs.Resolver.{old_key, renewal_octets, adoption_octets, deletion_octets};

@@ -1,5 +1,7 @@
 // The resolver's reading call (02, CR 1): what a reply to the open request moves. Every state and every value of every argument is accepted. The contracts
 // are equations with the crate model's Resolver.
+#![tactic(auto)]
+
 ghost use Rattle.std.specs.Prelude.{◌≡◌, ◌≤◌, length, take};
 ghost use Rattle.model.specs.Names.{algorithm_named};
 ghost use Rattle.model.specs.Resolver.{closed, unheard, offered_by, renewed_in, adopted_by, keyless, moved, is_mode, moved_by, read_reply};

@@ -1,5 +1,7 @@
 // The resolver's writing calls (02, CR 1): the requests for renewal, adoption and deletion, and the note of an ordinary message. Every state and every value
 // of every argument is accepted. The contracts are equations with the crate model's Resolver.
+#![tactic(auto)]
+
 ghost use Rattle.std.specs.Prelude.{◌≡◌, cond, ◌≤◌, ◌<◌, length};
 ghost use Rattle.std.proofs.Math.Option.{some, none};
 ghost use Rattle.model.specs.Names.{wire_name};

@@ -1,4 +1,6 @@
 // The resolver's state where it lies: in 12 words and 510 octets that the caller lends (specs/State.antt). Every content of them is a state.
+#![tactic(auto)]
+
 ghost use Rattle.std.specs.Prelude.{◌≡◌, cond, ◌+◌, ◌%◌, ◌≤◌, ◌<◌};
 ghost use Rattle.model.specs.Names.{algorithm_numbered};
 ghost use Rattle.resolver_state.specs.State.{is_known, algorithm_or, key_in, holding_by, request_by, resolver_of, number_of, holding_word, asking_word, request_word, id_word, WordsStored, NamesStored, Stored};

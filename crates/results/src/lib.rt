@@ -1,4 +1,6 @@
 // The numbers that a call returns (01, "Numbers a caller sees"; 02, CR 6): those of a call that has no reply, and a skew as a word.
+#![tactic(auto)]
+
 ghost use Rattle.std.specs.Prelude.{◌≡◌};
 ghost use Rattle.results.specs.Bare.{bare_as};
 ghost use Rattle.results.specs.Words.{twos_complement};

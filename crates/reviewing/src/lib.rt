@@ -1,4 +1,6 @@
 // Judging another server's replies (02, CR 12): its reply against what the message call writes on the table of a listing.
+#![tactic(auto)]
+
 ghost use Rattle.std.specs.Prelude.{◌≡◌, length};
 ghost use Rattle.model.specs.Compare.{ours_of, compared, compare_on};
 ghost use Rattle.store.specs.Layout.{table_of};

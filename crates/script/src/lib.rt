@@ -1,12 +1,14 @@
 // A line of the replay script (docs/SCRIPT.md), read into one command: which call it is, its numbers, and its octets as spans of one arena. What a line means is
 // tested against the second reader and not proved: the contracts say that reading a line is safe and ends.
+#![tactic(auto)]
+
 ghost use Rattle.std.specs.Prelude.{◌≤◌};
 
 use model::Span;
 use words::{Number, Octets};
 
 // The calls on the table.
-#[derive(Drop)]
+#[derive(Clone, Copy)]
 pub enum TableCall {
     New,
     Enrol,
@@ -22,7 +24,7 @@ pub enum TableCall {
 }
 
 // The lines that are done to the resolver.
-#[derive(Drop)]
+#[derive(Clone, Copy)]
 pub enum ResolverCall {
     Hold,
     Renewal,
@@ -34,7 +36,7 @@ pub enum ResolverCall {
 }
 
 // The calls on octets alone.
-#[derive(Drop)]
+#[derive(Clone, Copy)]
 pub enum SigningCall {
     DigestRequest,
     DigestReply,
@@ -44,7 +46,7 @@ pub enum SigningCall {
 }
 
 // Whose a line is, and which call; or it does not read.
-#[derive(Drop)]
+#[derive(Clone, Copy)]
 pub enum Call {
     Table(TableCall),
     Batch,
@@ -56,7 +58,7 @@ pub enum Call {
 
 // What the words behind the first say, each at its number: a number, `good` as 1 and `bad` as 0, or octets as a span of the arena. A batch's items stand beside
 // them; their count is number 3.
-#[derive(Drop)]
+#[derive(Clone, Copy)]
 pub struct Args {
     pub numbers: [u64; 12],
     pub spans: [Span; 12],
@@ -66,7 +68,7 @@ pub struct Args {
     read: bool,
 }
 
-#[derive(Drop)]
+#[derive(Clone, Copy)]
 pub struct Command {
     pub call: Call,
     pub args: Args,

@@ -1,6 +1,8 @@
 // Message, the call on a lent table that judges a message and writes the reply (document 01, "The desk's business"): gate, read, find, step, store. Every value of
 // every argument is accepted, lent slices of any length included; the call ends with an answer or a refusal of its list. The contract is an equation with the
 // crate model's Calls, on the table that the lent words and octets show.
+#![tactic(auto)]
+
 ghost use Rattle.std.specs.Prelude.{◌≡◌, true, ◌<◌, length};
 ghost use Rattle.model.specs.Tables.{names_of, table_rules};
 ghost use Rattle.model.specs.Calls.{message as messageCall, octets_owner, served, message_on};

@@ -1,5 +1,7 @@
 // The writing calls of CR 3 (02; RFC 8945, 4.2 and 4.3): the digest of a request and of a reply, and the finished message; and the digest of a later message of
 // a stream (5.3.1). Every value of every argument is accepted. The contracts are equations with the crate model's Signing and Received.
+#![tactic(auto)]
+
 ghost use Rattle.std.specs.Prelude.{◌≡◌, List, ℕ, ◌+◌, ◌≤◌, ◌<◌, ◌^◌, length};
 ghost use Rattle.model.specs.Tsig.{tsig_type, any_class};
 ghost use Rattle.model.specs.Replies.{record_octets};

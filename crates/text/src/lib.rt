@@ -1,4 +1,6 @@
 // Numbers, octets and algorithms as text in a lent buffer, by positions: each writer takes the place and answers the next one.
+#![tactic(auto)]
+
 ghost use Rattle.std.specs.Prelude.{◌≡◌, [], ◌∷◌, ◌+◌, ◌*◌, ◌/◌, ◌%◌, ◌≤◌, ◌<◌, length};
 ghost use Rattle.model.specs.Listing.{algorithm_word};
 ghost use Rattle.model.specs.Text.{numeral, hex_digit, hex_of};

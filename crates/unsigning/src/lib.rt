@@ -1,5 +1,7 @@
 // A message's TSIG read back, and the message without it (02, CR 3; RFC 8945, 4.3.2). Every value of every argument is accepted. The contracts are equations
 // with the crate model's Signing.
+#![tactic(auto)]
+
 ghost use Rattle.std.specs.Prelude.{◌≡◌, ◌≤◌, length};
 ghost use Rattle.model.specs.Signing.{removed, removed_in};
 ghost use Rattle.octets.specs.Wrote.{Wrote};
@@ -13,7 +15,7 @@ use digests::Assembly;
 use tsig::Signer;
 
 // What reading back returns: its number, and the TSIG; `Nobody` where it is refused.
-#[derive(Drop)]
+#[derive(Clone, Copy)]
 pub struct TsigRead {
     pub number: u64,
     pub signer: Signer,

@@ -1,17 +1,19 @@
 // Words of text, and the numbers and octets that they say.
+#![tactic(auto)]
+
 ghost use Rattle.std.specs.Prelude.{◌≡◌, ◌*◌, ◌≤◌, length};
 ghost use Rattle.model.specs.Text.{is_word, nibble, number_of, unhex};
 ghost use Rattle.words.specs.Reads.{number_shown, nibble_shown, OctetsRead};
 
 // What a word says as a number.
-#[derive(Drop)]
+#[derive(Clone, Copy)]
 pub enum Number {
     Is(u64),
     None,
 }
 
 // What a word says as octets: how many were written to the lent buffer.
-#[derive(Drop)]
+#[derive(Clone, Copy)]
 pub enum Octets {
     Count(usize),
     None,

@@ -122,24 +122,24 @@ in_items octets whole t r (x ∷ xs) k w =
 turn_done : (octets : List ℕ) (t : Table) (r : ℕ) (xs : List BatchItem) → (in_turn octets t r xs).number ≡ 0
 unfolding in_turn DONE
 turn_done octets t r [] = refl
-turn_done octets t r (x ∷ xs) = turn_done octets _ _ xs
+turn_done octets t r (x ∷ xs) = turn_done octets (called t (item_call octets r x)).table _ xs
 
 -- ── One batch ───────────────────────────────────────────────────────────────────────────────────────────────────────
 
 turn_leaves : (octets : List ℕ) (t : Table) (room : ℕ) (xs : List BatchItem) → (in_turn octets t room xs).table ≡ final t (lent_calls octets t room xs)
 unfolding in_turn
 turn_leaves octets t room [] = refl
-turn_leaves octets t room (x ∷ xs) = turn_leaves octets _ _ xs
+turn_leaves octets t room (x ∷ xs) = turn_leaves octets (called t (item_call octets room x)).table _ xs
 
 turn_ends : (octets : List ℕ) (t : Table) (room : ℕ) (xs : List BatchItem) → (in_turn octets t room xs).outcomes ≡ ends_of (log t (lent_calls octets t room xs))
 unfolding in_turn
 turn_ends octets t room [] = refl
-turn_ends octets t room (x ∷ xs) = ap (λ (os : List Outcome). (called t (item_call octets room x)).outcome ∷ os) (turn_ends octets _ _ xs)
+turn_ends octets t room (x ∷ xs) = ap (λ (os : List Outcome). (called t (item_call octets room x)).outcome ∷ os) (turn_ends octets (called t (item_call octets room x)).table _ xs)
 
 turn_each : (octets : List ℕ) (t : Table) (room : ℕ) (xs : List BatchItem) → length (in_turn octets t room xs).outcomes ≡ length xs
 unfolding in_turn
 turn_each octets t room [] = refl
-turn_each octets t room (x ∷ xs) = ap suc (turn_each octets _ _ xs)
+turn_each octets t room (x ∷ xs) = ap suc (turn_each octets (called t (item_call octets room x)).table _ xs)
 
 item_fits : (octets : List ℕ) (t : Table) (room : ℕ) (x : BatchItem) → length (called t (item_call octets room x)).outcome.reply ≤ room
 unfolding item_call

@@ -69,6 +69,7 @@ one_key l n c (Renewing a w) j k o (inr e) (inr f) q = some-injective j k (sym e
 -- two rows with one suffix are one row
 one_row : {x y : Row} (rs : List Row) → distinct (map (λ r. r.suffix) rs) ≡ true → Memᴰ x rs → Memᴰ y rs → same_name x.suffix y.suffix ≡ true → x ≡ y
 unfolding distinct
+one_row [] d m _ q = elim m [ ]
 one_row (r ∷ rs) d (mathlib.Core.List.Memᴰ.head e) (mathlib.Core.List.Memᴰ.head f) q = e ∙ sym f
 one_row {x} {y} (r ∷ rs) d (mathlib.Core.List.Memᴰ.head e) (mathlib.Core.List.Memᴰ.tail m) q =
     let names = map (λ (r : Row). r.suffix) rs in

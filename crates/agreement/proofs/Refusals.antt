@@ -1,16 +1,14 @@
 -- The resolver's refusals. Assumes nothing.
 use Prim.Native.Nat.{ℕ, ◌≤◌}
 use mathlib.Core.Path.{◌≡◌, refl}
-use mathlib.Core.Bool.{Bool, true, ◌&&◌}
+use mathlib.Core.Bool.{Bool, true}
 use mathlib.Core.List.{List, [], ◌∷◌}
-use native.Mathlib.Omega.{arith}
 use lib.Dec.{eqb, leb}
 use lib.ListN.{length}
 use borrow.Author.Tests.{leb-true}
 use Rattle.model.specs.declared.Algorithm.{Algorithm}
 use Rattle.model.specs.declared.Asking.{Asking}
 use Rattle.model.specs.declared.OpenRequest.{OpenRequest}
-use Rattle.model.specs.declared.OpenRequest.TheVariants as OpenRequest
 use Rattle.model.specs.declared.Resolver.{Resolver}
 use Rattle.model.specs.declared.SignWith.{SignWith}
 use Rattle.model.specs.Octets.{put}
@@ -19,9 +17,9 @@ use Rattle.model.specs.Messages.{Message, read_message}
 use Rattle.model.specs.Tsig.{Signature, unsigned, misplaced, well_placed, signature}
 use Rattle.model.specs.Calls.{room_for, size_ok}
 use Rattle.model.specs.Tkey.{is_key_record}
-use Rattle.model.specs.Resolver.{LOST, WRONGID, UNSIGNED, FORMAT, ROOM, NOKEY, Writing, adopted_key, offered_key, unwritten, sent, root_or, written_renewal, written_adoption, written_deletion, written_into, unheard, heard, signed_reply, awaited_reply, read_reply}
+use Rattle.model.specs.Resolver.{LOST, WRONGID, UNSIGNED, FORMAT, ROOM, NOKEY, adopted_key, offered_key, unwritten, sent, root_or, written_renewal, written_adoption, written_deletion, written_into, unheard, heard, signed_reply, awaited_reply, read_reply}
 use Rattle.model.proofs.Buffers.{put_length}
-use Rattle.model.proofs.Tests.{left, right, by_check, by_read, by_some}
+use Rattle.model.proofs.Tests.{left, by_check, by_read, by_some}
 use Rattle.guarantees.specs.Refusals.{is_one}
 use Rattle.agreement.specs.Refusals.{Writes, Reads, Refusals}
 

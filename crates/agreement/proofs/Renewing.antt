@@ -21,7 +21,6 @@ use Rattle.model.specs.declared.Scheme.TheVariants.{ServerAssignment}
 use Rattle.model.specs.declared.Decision.TheVariants.{Failed, Renews}
 use Rattle.model.specs.declared.Asking.TheVariants as Asking
 use Rattle.model.specs.declared.Holding.{Holding}
-use Rattle.model.specs.declared.Holding.TheVariants as Holding
 use Rattle.model.specs.declared.ResolverKey.{ResolverKey}
 use Rattle.model.specs.declared.Resolver.{Resolver}
 use Rattle.model.specs.declared.SignWith.TheVariants as SignWith

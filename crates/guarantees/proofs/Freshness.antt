@@ -30,7 +30,7 @@ use Rattle.model.specs.Tables.{Row, Table, no_row, row_at, suffix_at, pair_at, w
 use Rattle.model.specs.Judging.{Holder, held_suffix, held_pair, adopted_of, waiting_of, judge, changed}
 use Rattle.model.specs.Replies.{granted, renewed_reply, reply_of, granted_reply, second_ok}
 use Rattle.model.specs.Calls.{refusal_at, TIME, SIZE, OFFER, NOTQUERY, ROOM, Result, refusal, unchanged, time_fits, empty_table, new_table, size_ok, offer_ok, room_for, reply_to, replied, time_of, signed_by, octets_owner, owner_of, holder_at, served, called, KEYREC}
-use Rattle.model.specs.Runs.{Operation, enrol, close, call, operated, operated_all, Has, next_of, suffix_by, suffix_of, key_raised, key_made, listed, names_made, NoneSame, Distinct}
+use Rattle.model.specs.Runs.{Operation, enrol, close, call, operated, operated_all, next_of, suffix_by, suffix_of, key_raised, key_made, listed, names_made, NoneSame, Distinct}
 use Rattle.model.proofs.CallLaws.{passes_first, message_size, message_offer, message_response, message_room, message_done, message_keyrec}
 use Rattle.guarantees.specs.Freshness.{after, Starts, from_new, from_load, from_mend, Carries, Ask, asks, Decides, fit_serves, Granted, AtOnce, RunsFrom, Demand2}
 use Rattle.model.proofs.Tests.{both, not_so, by_check}

@@ -24,7 +24,7 @@ use Rattle.model.specs.Checks.{check, check_place}
 use Rattle.model.specs.Calls.{refusal_at, breaks, DONE, TABLE, TIME, CLOCK, SIZE, OFFER, FORMAT, NOTQUERY, ROOM, NOPAIR, SPENT, NAME, TERM, TWIN, FULL, Outcome, Result, refusal, done, unchanged, time_fits, time_goes_on, time_gate, gate, clock_at, new_table, with_row, first_serial, enrolled, enrol_passed, enrol_on, without_row, number_owner, closed, close_passed, close_on, Step, refuses, leaves, size_ok, found, looked_up, look_step, offer_ok, room_for, reply_to, replied, answered, message_step, Call, look, message, time_of, owner_of, step_of, holder_at, served_by, called, look_on, message_on, buffer_after, KEYREC}
 use Rattle.model.specs.Runs.{Operation, enrol, close, call, operated}
 use Rattle.model.proofs.Buffers.{put_length}
-use Rattle.model.proofs.CallLaws.{holder_by, refused_first, passes_first, leaves_it, buffer_refused}
+use Rattle.model.proofs.CallLaws.{holder_by, refused_first, passes_first, leaves_it}
 use Rattle.guarantees.specs.Refusals.{is_one, own_refusals, first_refusals, refusals_of, operation_time, moved_by, Safe, WrongRecord, Demand1}
 use Rattle.model.proofs.Tests.{left, by_check, by_some, by_place, by_known}
 use Rattle.model.proofs.Decisions.{Allows, allows}

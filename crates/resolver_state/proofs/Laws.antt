@@ -1,28 +1,24 @@
 -- What is stored is read back. Assumes nothing.
 use Prim.Native.Nat.{ℕ, ◌%◌, ◌≤◌, ◌<◌}
 use mathlib.Core.Bool.{Bool, true, false, cond}
-use mathlib.Core.List.{List, [], ◌++◌, append-nil}
-use mathlib.Core.Path.{◌≡◌, refl, sym, ap, ◌∙◌}
+use mathlib.Core.List.{List, append-nil}
+use mathlib.Core.Path.{◌≡◌, refl, ap, ◌∙◌}
 use native.Mathlib.Omega.{arith}
 use lib.Dec.{eqb}
-use lib.ListN.{length, take, drop, replicate, drop_of_length-le, length-append}
+use lib.ListN.{length, take, drop_of_length-le}
 use lib.Seq.{take_at, drop_at, take_all}
 use Rattle.model.specs.declared.Algorithm.{Algorithm}
 use Rattle.model.specs.declared.Algorithm.TheVariants.{Sha256, Sha384, Sha512}
 use Rattle.model.specs.declared.Named.TheVariants.{Known}
-use Rattle.model.specs.declared.ResolverKey.{ResolverKey}
 use Rattle.model.specs.declared.Holding.{Holding}
-use Rattle.model.specs.declared.Holding.TheVariants as Holding
-use Rattle.model.specs.declared.Asking.{Asking}
 use Rattle.model.specs.declared.Asking.TheVariants.{Ordinary, Renewal, Adoption, Deletion}
 use Rattle.model.specs.declared.OpenRequest.{OpenRequest}
-use Rattle.model.specs.declared.OpenRequest.TheVariants as OpenRequest
 use Rattle.model.specs.declared.Resolver.{Resolver}
 use Rattle.model.specs.Octets.{put, part}
 use Rattle.model.specs.Names.{algorithm_numbered}
 use Rattle.octets.specs.Wrote.{Wrote}
 use Rattle.octets.proofs.Laws.{wrote_put}
-use Rattle.resolver_state.specs.State.{is_known, algorithm_or, key_in, holding_by, request_by, resolver_of, number_of, holding_word, asking_word, request_word, id_word, state_words, state_names, TimesFit, WordsStored, NamesStored, Stored}
+use Rattle.resolver_state.specs.State.{key_in, holding_by, request_by, resolver_of, number_of, holding_word, request_word, id_word, state_words, state_names, WordsStored, NamesStored, Stored}
 
 -- a buffer written over from its first octet to its last
 pub wrote_all : {xs b b' : List ℕ} {next : ℕ} → Wrote xs 0 b b' next → length b ≡ length xs → b' ≡ xs

@@ -17,11 +17,9 @@ use Rattle.model.specs.declared.Named.{Named}
 use Rattle.model.specs.declared.Named.TheVariants.{Known, Unknown}
 use Rattle.model.specs.declared.ResolverKey.{ResolverKey}
 use Rattle.model.specs.declared.Holding.{Holding}
-use Rattle.model.specs.declared.Holding.TheVariants as Holding
 use Rattle.model.specs.declared.Asking.{Asking}
 use Rattle.model.specs.declared.Asking.TheVariants.{Ordinary, Renewal, Adoption, Deletion}
 use Rattle.model.specs.declared.OpenRequest.{OpenRequest}
-use Rattle.model.specs.declared.OpenRequest.TheVariants as OpenRequest
 use Rattle.model.specs.declared.Resolver.{Resolver}
 use Rattle.model.specs.Octets.{part}
 use Rattle.model.specs.Names.{algorithm_numbered}

@@ -1,5 +1,6 @@
 -- `resolver_state::algorithm_numbered` meets its contract. Assumes nothing.
 use Rattle.model.specs.Names.{algorithm_numbered}
+use Rattle.std.proofs.Common.{◌≢◌, arith}
 use borrow.Author.Tests.{ne_eqb}
 use Rattle.resolver_state.proofs.algorithm_numbered.Goals as goal
 
@@ -18,5 +19,7 @@ returns-in-512 c = rw c.in-512.is
 pub returns-in_default : goal.returns-in_default
 unfolding algorithm_numbered
 returns-in_default c =
-    let no = c.in_default.rest in
-    simp (ne_eqb _ _ no.0.0.1, ne_eqb _ _ no.0.1, ne_eqb _ _ no.1)
+    let n256 : c.args.n ≢ 256 = omega arith in
+    let n384 : c.args.n ≢ 384 = omega arith in
+    let n512 : c.args.n ≢ 512 = omega arith in
+    simp (ne_eqb _ _ n256, ne_eqb _ _ n384, ne_eqb _ _ n512)

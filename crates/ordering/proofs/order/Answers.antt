@@ -1,11 +1,11 @@
 -- `ordering::order` meets its contract. The loop's invariant: the names are ordered as what is left of them. Assumes nothing.
-use Prim.Native.Nat.{◌-◌}
-use mathlib.Core.Logic.{⊎_elim}
-use mathlib.Core.Path.{sym, ap, ◌∙◌}
+use mathlib.Core.Path.{◌≡◌, sym, ap, ◌∙◌}
 use native.Mathlib.Omega.{arith}
+use lib.ListN.{get_or}
 use Rattle.model.specs.Names.{lower_of}
 use Rattle.ordering.proofs.Laws.{order_after, step_less, step_greater, step_on, end}
 use Rattle.ordering.proofs.order.Goals as goal
+use Rattle.ordering.proofs.order.Goals.{then-p-q+else-x-y+else-y-x, else-p-q}
 
 pub loop-i-init : goal.loop-i-init
 loop-i-init c = (omega arith, order_after _ _ c.same_front-i.result c.same_front-i.ensures.2)
@@ -20,7 +20,13 @@ returns-then-y-x c =
 
 pub loop-i-preserved : goal.loop-i-preserved
 loop-i-preserved c =
-    (omega arith, c.loop-i.invariant.1 ∙ step_on c.args.a.now c.args.b.now c.loop-i.i (omega arith) (omega arith) (⊎_elim (λ w. omega (arith, w.1.ensures, w.2.ensures, w.3.left, w.4.left)) (λ w. ap lower_of w.left) c.if-p-q.branch))
+    let same : lower_of (get_or c.args.a.now c.loop-i.i 0) ≡ lower_of (get_or c.args.b.now c.loop-i.i 0) =
+    elim c.if-p-q.branch [
+      | then-p-q+else-x-y+else-y-x w ↦ omega (arith, w.lower-x.ensures, w.lower-y.ensures)
+      | else-p-q w ↦ ap lower_of w.if-p-q.false
+    ]
+    in
+    (omega arith, c.loop-i.invariant.1 ∙ step_on c.args.a.now c.args.b.now c.loop-i.i (omega arith) (omega arith) same)
 
 pub returns : goal.returns
 returns c =

@@ -36,7 +36,7 @@ returns-in_default-last_numbers c =
           begins pair_word _ pair_said c.in-At.first (rw c.in-At.is at c.first_end.ensures)
           ∙ steps suffix_said _ _ _ _ c.in-Is.second (rw c.in-Is.is at s.says)
           ∙ numbers_are _ _ _ _ (rw c.in_default-last_numbers.is at c.last_numbers.ensures);
-      c.size-1.given = s.long;
+      size = s.long;
       bound = λ n p e. let z : ◌≡◌ {A = ℕ} 0 1 = cc in absurd (omega arith);
     }
 
@@ -50,6 +50,6 @@ returns c =
           begins pair_word _ pair_said c.in-At.first (rw c.in-At.is at c.first_end.ensures)
           ∙ steps suffix_said _ _ _ _ c.in-Is.second (rw c.in-Is.is at s.says)
           ∙ numbers_are _ _ _ _ (rw c.in-Are.is at c.last_numbers.ensures);
-      c.size-1.given = s.long;
+      size = s.long;
       bound = λ n p e. let same : c.in-Is.size ≡ n = cc in omega arith;
     }

@@ -1,0 +1,15 @@
+-- `inserting::open_place` meets its contract. Assumes nothing.
+use Prim.Native.Nat.{◌+◌}
+use mathlib.Core.Logic.{inl}
+use native.Mathlib.Omega.{arith}
+use Rattle.inserting.proofs.Moving.{opened}
+use Rattle.inserting.proofs.open_place.Goals as goal
+
+pub renumber-requires : goal.renumber-requires
+renumber-requires c =
+    let m = c.words_up.ensures in
+    (omega (arith, m.size), λ i l. rw (m.kept (3 + i) (inl (omega arith))) (c.requires.3 i l))
+
+pub returns : goal.returns
+returns c =
+    opened c.requires.2 c.requires.1 c.words_up.ensures c.renumber.ensures

@@ -1,0 +1,38 @@
+-- `operator::enrol_known` meets its contract. Assumes nothing.
+use native.Mathlib.Omega.{arith}
+use Rattle.store.proofs.Laid.{laid}
+use Rattle.operator.proofs.Laws.{known_twin, known_full, known_spent, known_done, floor_rule, ready}
+use Rattle.operator.proofs.enrol_known.Goals as goal
+
+pub bounds-words-1 : goal.bounds-words-1
+bounds-words-1 c =
+    let w = c.args.words.now in
+    let s = c.args.suffixes.now in
+    omega (arith, (laid w s c.requires.0.layout).words)
+
+pub returns-then-words-ge64 : goal.returns-then-words-ge64
+returns-then-words-ge64 c = λ n k. known_full _ _ _ _ _ n _ c.requires.1 c.requires.2 _ k _ c.find.ensures _ _ c.in-Missing.is c.requires.0 c.if-words-ge64.true c.refused-then-words-ge64.ensures
+
+pub bounds-words-2 : goal.bounds-words-2
+bounds-words-2 c =
+    let w = c.args.words.now in
+    let s = c.args.suffixes.now in
+    omega (arith, (laid w s c.requires.0.layout).words)
+
+pub returns-then-floor-ge4294967296 : goal.returns-then-floor-ge4294967296
+returns-then-floor-ge4294967296 c = λ n k. known_spent _ _ _ _ _ n _ c.requires.1 c.requires.2 _ k _ c.find.ensures _ _ c.in-Missing.is c.requires.0 c.if-words-ge64.false c.if-floor-ge4294967296.true c.refused-then-floor-ge4294967296.ensures
+
+pub first_pair-p-requires : goal.first_pair-p-requires
+first_pair-p-requires c = (floor_rule _ _ _ c.requires.0, c.requires.2, c.requires.0.fits)
+
+pub enrol_row-requires : goal.enrol_row-requires
+enrol_row-requires c =
+    let w = c.args.words.now in
+    let s = c.args.suffixes.now in
+    ready w s _ _ c.find.ensures _ c.in-Missing.is c.requires.0.layout c.if-words-ge64.false c.requires.1
+
+pub returns-in-Row : goal.returns-in-Row
+returns-in-Row c = λ n k. known_twin _ _ _ _ _ n _ c.requires.1 c.requires.2 _ k _ c.find.ensures _ c.in-Row.is c.refused.ensures
+
+pub returns-else-floor-ge4294967296 : goal.returns-else-floor-ge4294967296
+returns-else-floor-ge4294967296 c = λ n k. known_done _ _ _ _ _ n _ c.requires.1 c.requires.2 _ k _ c.find.ensures _ _ c.in-Missing.is c.requires.0 c.if-words-ge64.false c.if-floor-ge4294967296.false c.first_pair-p.ensures c.enrol_row.ensures

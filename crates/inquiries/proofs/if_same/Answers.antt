@@ -1,0 +1,10 @@
+-- `inquiries::if_same` meets its contract. Assumes nothing.
+use mathlib.Core.Path.{refl}
+use borrow.Author.Tests.{eq-eqb, ne_eqb}
+use Rattle.inquiries.proofs.if_same.Goals as goal
+
+pub returns-then-x-y : goal.returns-then-x-y
+returns-then-x-y c = rw (eq-eqb _ _ c.if-x-y.true) refl
+
+pub returns : goal.returns
+returns c = rw (ne_eqb _ _ c.if-x-y.false) refl

@@ -1,0 +1,10 @@
+use Rattle.model.specs.Loading.{mend}
+use mathlib.Core.List.{[], ◌∷◌}
+use Rattle.loading.proofs.Ends.{counted}
+use Rattle.loading.proofs.mendable.Goals as goal
+
+-- src/lib.rt:322:1
+pub returns : goal.returns
+returns c =
+    let k = c.read_into in
+    counted (mend c.args.text.now) k.new.words k.new.suffixes (0 ∷ []) k.new.named k.result k.ensures

@@ -1,11 +1,11 @@
 -- How loading and mending end: one law for each end. Assumes nothing.
-use Prim.Native.Nat.{ℕ, zero, suc, ◌+◌, ◌*◌, ◌/◌, ◌≤◌, ◌<◌}
+use Prim.Native.Nat.{ℕ, ◌/◌, ◌≤◌, ◌<◌}
 use mathlib.Core.Bool.{Bool, true, false, false≢true}
 use mathlib.Core.Path.{◌≡◌, refl, sym, ap, ap₂, ◌∙◌, subst}
 use mathlib.Core.Option.{Option, none, some}
 use mathlib.Core.List.{List, [], ◌∷◌}
 use native.Mathlib.Omega.{arith}
-use lib.Dec.{eqb, leb}
+use lib.Dec.{eqb}
 use lib.ListN.{length, take, drop}
 use borrow.Author.Tests.{eq-eqb, ne_eqb, le-leb, lt-leb}
 use Rattle.model.specs.declared.Clocked.{Clocked}
@@ -13,7 +13,7 @@ use Rattle.model.specs.Octets.{put}
 use Rattle.model.specs.Tables.{Table}
 use Rattle.model.specs.Calls.{DONE, TABLE, ROOM, LINE}
 use Rattle.model.specs.Lines.{lines_of, read_clock}
-use Rattle.model.specs.Loading.{unread_from, first_unread, Loaded, no_line, no_table, loaded, load, load_number, load_line, Dropped, Mended, no_clock, no_rule, no_room, mended, mend, mended_in, mend_number, mend_line}
+use Rattle.model.specs.Loading.{unread_from, first_unread, no_table, loaded, load, load_number, load_line, Dropped, Mended, no_clock, no_rule, no_room, mended, mend, mended_in, mend_number, mend_line}
 use Rattle.model.proofs.Forward.{loaded_from, load_by_mend}
 use Rattle.model.proofs.Mends.{whole_loads}
 use Rattle.model.proofs.Tests.{and_false}
@@ -21,12 +21,11 @@ use Rattle.octets.specs.Wrote.{Wrote}
 use Rattle.octets.proofs.Laws.{wrote_put}
 use Rattle.store.specs.Layout.{table_of}
 use Rattle.lines.specs.declared.ClockLine.{ClockLine}
-use Rattle.lines.specs.declared.ClockLine.TheVariants as ClockLine
 use Rattle.lines.specs.Read.{clock_shown, LineEnds}
 use Rattle.loading.specs.declared.Ended.{Ended}
 use Rattle.loading.specs.declared.Mending.{Mending}
 use Rattle.loading.specs.declared.Read.{Read}
-use Rattle.loading.specs.Walk.{named_words, Named, Reads}
+use Rattle.loading.specs.Walk.{named_words, Reads}
 use Rattle.loading.specs.Loads.{unread_shown, lends, load_into, end_of, table_after, Loads, Kept, Counted, refused_with, mend_into, dropped_by, table_mended, mends_as, mend_end, Mends}
 use Rattle.loading.proofs.Laws.{first_line, no_octets, put_whole}
 

@@ -1,8 +1,8 @@
 -- One law for each end of each function. Assumes nothing.
-use Prim.Native.Nat.{ℕ, zero, suc, ◌+◌, ◌-◌, ◌*◌, ◌/◌, ◌≤◌, ◌<◌}
+use Prim.Native.Nat.{ℕ, zero, suc, ◌+◌, ◌-◌, ◌*◌, ◌/◌, ◌≤◌}
 use mathlib.Core.Bool.{Bool, true, false, ◌&&◌, false≢true}
 use mathlib.Core.Path.{◌≡◌, refl, sym, ap, ap₂, ◌∙◌, subst}
-use mathlib.Core.Option.{Option, none, some}
+use mathlib.Core.Option.{Option}
 use mathlib.Core.List.{List, [], ◌∷◌, ◌++◌, append-nil, append_assoc}
 use lib.Dec.{eqb}
 use borrow.Author.Tests.{ne_eqb}
@@ -16,7 +16,7 @@ use Rattle.model.specs.Tables.{Table, Row}
 use Rattle.model.specs.Calls.{DONE, TABLE, LINE, with_row}
 use Rattle.model.specs.declared.Clocked.{Clocked}
 use Rattle.model.specs.Lines.{lines_of, is_key_line, read_clock, read_key, read_pair}
-use Rattle.model.specs.Loading.{blocks_of, reads_as, unread_or, unread_from, Entry, unread, Judged, keeps, drops, judged, Dropped, dropped_from, Kept, dropping, clocked_rule, Mended, mended_with, mended_by, mend_lines, mend}
+use Rattle.model.specs.Loading.{blocks_of, reads_as, unread_or, unread_from, Entry, unread, Judged, keeps, drops, Dropped, dropped_from, Kept, dropping, clocked_rule, Mended, mended_with, mended_by, mend_lines, mend}
 use Rattle.model.specs.Text.{line_of}
 use Rattle.model.specs.Listing.{tabbed, clock_line}
 use Rattle.model.proofs.LineLaws.{clock_is}
@@ -32,8 +32,7 @@ use Rattle.inserting.specs.Insert.{Ready, Inserted}
 use Rattle.lines.specs.declared.KeyLine.{KeyLine}
 use Rattle.lines.specs.declared.PairLine.{PairLine}
 use Rattle.lines.specs.declared.ClockLine.{ClockLine}
-use Rattle.lines.specs.declared.ClockLine.TheVariants as ClockLine
-use Rattle.lines.specs.Read.{clock_shown, key_shown, pair_shown, LineEnds, PairRead}
+use Rattle.lines.specs.Read.{clock_shown, key_shown, LineEnds, PairRead}
 use Rattle.entries.specs.declared.Open.{Open}
 use Rattle.entries.specs.declared.Open.TheVariants.{Unread}
 use Rattle.entries.specs.declared.Judgement.{Judgement}

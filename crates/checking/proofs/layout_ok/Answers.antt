@@ -1,5 +1,4 @@
 -- `checking::layout_ok` meets its contract. The loop's invariant: the rule is what is left of it from the place q on, and no suffix before q leads past its octets. Assumes nothing.
-use Prim.Native.Nat.{◌-◌}
 use mathlib.Core.Path.{sym, ◌∙◌}
 use native.Mathlib.Omega.{arith}
 use native.Mathlib.Nat.{sub-zero}

@@ -2,7 +2,6 @@ use Rattle.loading.proofs.Laws.{put_whole}
 use Rattle.octets.proofs.Laws.{put_none, put_turn, put_done}
 use lib.ListN.{length-set}
 use native.Mathlib.Omega.{arith}
-use Prim.Native.Nat.{◌-◌}
 use mathlib.Core.Path.{refl, ◌∙◌}
 use Rattle.loading.proofs.copy_words.Goals as goal
 

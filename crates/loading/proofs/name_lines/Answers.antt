@@ -1,7 +1,6 @@
 use Rattle.loading.proofs.Laws.{named_none, named_next, named_all}
 use Rattle.model.specs.Loading.{dropped_from}
 use native.Mathlib.Omega.{arith}
-use Prim.Native.Nat.{◌-◌}
 use Rattle.loading.proofs.name_lines.Goals as goal
 
 -- src/lib.rt:41:5

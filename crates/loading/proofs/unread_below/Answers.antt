@@ -1,6 +1,5 @@
 use Rattle.loading.proofs.Laws.{unread_here, unread_next, unread_end}
 use native.Mathlib.Omega.{arith}
-use Prim.Native.Nat.{◌-◌}
 use mathlib.Core.Path.{refl, sym, ◌∙◌}
 use Rattle.loading.proofs.unread_below.Goals as goal
 

@@ -1,7 +1,6 @@
 use Rattle.store.proofs.Laid.{laid}
 use Rattle.loading.proofs.Laws.{walking_first, walking_next, walking_last}
 use native.Mathlib.Omega.{arith}
-use Prim.Native.Nat.{◌-◌}
 use mathlib.Core.Path.{refl, sym, ◌∙◌}
 use Rattle.loading.proofs.walk_lines.Goals as goal
 

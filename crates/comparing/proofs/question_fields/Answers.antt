@@ -1,0 +1,17 @@
+-- `comparing::question_fields` meets its contract. Assumes nothing.
+use Rattle.comparing.proofs.Walking.{question_other, question_differs, question_same}
+use Rattle.comparing.proofs.question_fields.Goals as goal
+
+pub returns-then-not-same_names_at : goal.returns-then-not-same_names_at
+returns-then-not-same_names_at c =
+    question_other _ _ _ _ _ _ _ c.requires.0 c.requires.1 _ c.same_names_at.ensures c.if-not-same_names_at.true
+
+pub returns-in-Nothing : goal.returns-in-Nothing
+returns-in-Nothing c =
+    question_same _ _ _ _ _ _ _ c.requires.0 c.requires.1 _ c.same_names_at.ensures c.if-not-same_names_at.false
+    c.fields.result c.fields.ensures c.in-Nothing.is
+
+pub returns-in-At : goal.returns-in-At
+returns-in-At c =
+    question_differs _ _ _ _ _ _ _ c.requires.0 c.requires.1 _ c.same_names_at.ensures c.if-not-same_names_at.false
+    c.fields.result c.fields.ensures _ c.in-At.is

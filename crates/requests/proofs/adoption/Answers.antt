@@ -9,11 +9,11 @@ use Rattle.requests.proofs.adoption.Goals as goal
 pub returns-then-buf-name : goal.returns-then-buf-name
 returns-then-buf-name c =
     let a = c.args in
-    let l = adoption_length a.id a.name.now a.g a.inception a.expiration a.old.now a.old-algorithm in
-    no_room (adoption_octets a.id a.name.now a.g a.inception a.expiration a.old.now a.old-algorithm) a.buf.now (omega arith)
+    let l = adoption_length a.id a.name.now a.g a.inception a.expiration a.old.now a.old_algorithm in
+    no_room (adoption_octets a.id a.name.now a.g a.inception a.expiration a.old.now a.old_algorithm) a.buf.now (omega arith)
 
 pub returns : goal.returns
 returns c =
     let a = c.args in
     let w = then c.request_front-a.ensures.1 c.old_key.ensures.1 in
-    in_room_lem (wrote_as (adoption_octets_lem a.id a.name.now a.g a.inception a.expiration a.old.now a.old-algorithm) w) (omega arith)
+    in_room_lem (wrote_as (adoption_octets_lem a.id a.name.now a.g a.inception a.expiration a.old.now a.old_algorithm) w) (omega arith)

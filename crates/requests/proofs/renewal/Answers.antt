@@ -9,23 +9,23 @@ use Rattle.requests.proofs.renewal.Goals as goal
 pub returns-then-key-gt65535 : goal.returns-then-key-gt65535
 returns-then-key-gt65535 c =
     let a = c.args in
-    let l = renewal_length a.id a.name.now a.g a.inception a.expiration a.old.now a.old-algorithm a.key.now in
-    too_long (renewal_octets a.id a.name.now a.g a.inception a.expiration a.old.now a.old-algorithm a.key.now) a.buf.now (omega arith)
+    let l = renewal_length a.id a.name.now a.g a.inception a.expiration a.old.now a.old_algorithm a.key.now in
+    too_long (renewal_octets a.id a.name.now a.g a.inception a.expiration a.old.now a.old_algorithm a.key.now) a.buf.now (omega arith)
 
 pub returns-then-n-gt65535 : goal.returns-then-n-gt65535
 returns-then-n-gt65535 c =
     let a = c.args in
-    let l = renewal_length a.id a.name.now a.g a.inception a.expiration a.old.now a.old-algorithm a.key.now in
-    too_long (renewal_octets a.id a.name.now a.g a.inception a.expiration a.old.now a.old-algorithm a.key.now) a.buf.now (omega arith)
+    let l = renewal_length a.id a.name.now a.g a.inception a.expiration a.old.now a.old_algorithm a.key.now in
+    too_long (renewal_octets a.id a.name.now a.g a.inception a.expiration a.old.now a.old_algorithm a.key.now) a.buf.now (omega arith)
 
 pub returns-then-buf-n : goal.returns-then-buf-n
 returns-then-buf-n c =
     let a = c.args in
-    let l = renewal_length a.id a.name.now a.g a.inception a.expiration a.old.now a.old-algorithm a.key.now in
-    no_room (renewal_octets a.id a.name.now a.g a.inception a.expiration a.old.now a.old-algorithm a.key.now) a.buf.now (omega arith)
+    let l = renewal_length a.id a.name.now a.g a.inception a.expiration a.old.now a.old_algorithm a.key.now in
+    no_room (renewal_octets a.id a.name.now a.g a.inception a.expiration a.old.now a.old_algorithm a.key.now) a.buf.now (omega arith)
 
 pub returns : goal.returns
 returns c =
     let a = c.args in
     let w = then c.request_front-a.ensures.1 (then c.old_key-b.ensures.1 c.all_into.ensures.1) in
-    in_room_lem (wrote_as (renewal_octets_lem a.id a.name.now a.g a.inception a.expiration a.old.now a.old-algorithm a.key.now) w) (omega arith)
+    in_room_lem (wrote_as (renewal_octets_lem a.id a.name.now a.g a.inception a.expiration a.old.now a.old_algorithm a.key.now) w) (omega arith)

@@ -1,5 +1,4 @@
 -- `searching::find` meets its contract. The loop's invariant: the search is narrowed to the places from `low` up to `high`. Assumes nothing.
-use Prim.Native.Nat.{◌-◌}
 use mathlib.Core.Path.{refl}
 use native.Mathlib.Omega.{arith}
 use Rattle.store.proofs.Laid.{laid}

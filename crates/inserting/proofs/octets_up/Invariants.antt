@@ -1,5 +1,5 @@
 -- `inserting::octets_up` meets its contract. The loop's invariant: what lies from i on has moved. Assumes nothing.
-use Prim.Native.Nat.{◌-◌, ◌≤◌}
+use Prim.Native.Nat.{◌≤◌}
 use Rattle.inserting.specs.Insert.{MovedUp}
 use Rattle.inserting.proofs.octets_up.Given as goal
 

@@ -1,5 +1,5 @@
 -- `inserting::renumber` meets its contract. The loop's invariant: the map of the first i rows is renumbered. Assumes nothing.
-use Prim.Native.Nat.{◌+◌, ◌-◌}
+use Prim.Native.Nat.{◌+◌}
 use mathlib.Core.Logic.{inr}
 use mathlib.Core.Path.{◌≡◌}
 use native.Mathlib.Omega.{arith}

@@ -2,13 +2,13 @@
 use Prim.Native.Nat.{ℕ, ◌+◌, ◌-◌, ◌*◌, ◌≤◌, ◌<◌, max}
 use mathlib.Core.List.{List}
 use mathlib.Core.Logic.{◌⊎◌, inl, inr}
-use mathlib.Core.Path.{◌≡◌, refl, sym, ap, ◌∙◌}
+use mathlib.Core.Path.{◌≡◌, refl, ap, ◌∙◌}
 use native.Mathlib.Decide.{dec_lt, ℕ_discrete}
 use native.Mathlib.Omega.{arith}
 use borrow.Author.Tests.{lt-ltb, le-ltb}
 use lib.ListN.{length, get_or, set, length-set}
 use lib.Seq.{get_or-set_same, get_or-set_other}
-use Rattle.store.specs.Layout.{count_of, floor_of, place_of, row_in}
+use Rattle.store.specs.Layout.{floor_of, place_of, row_in}
 use Rattle.inserting.specs.Insert.{up_from}
 use Rattle.inserting.proofs.Moving.{up_low, up_high}
 use Rattle.removing.specs.Remove.{down_from, MovedDown, Remapped, Renumbered, Closed, Headed}

@@ -1,18 +1,16 @@
 -- What the table is after a removal, through the view, and that the layout rule is kept. Assumes nothing.
 use Prim.Native.Nat.{ℕ, zero, suc, ◌+◌, ◌-◌, ◌*◌, ◌≤◌, ◌<◌, max}
 use mathlib.Core.Bool.{true}
-use mathlib.Core.List.{List, [], ◌∷◌, ◌++◌}
-use mathlib.Core.Logic.{inl, inr}
+use mathlib.Core.List.{List, ◌++◌}
+use mathlib.Core.Logic.{inl}
 use mathlib.Core.Path.{◌≡◌, refl, sym, ap, ◌∙◌}
 use native.Mathlib.Decide.{dec_lt}
 use native.Mathlib.Omega.{arith}
 use lib.ListN.{length, get_or, take, drop, length-append, length-drop, get_or-append}
 use lib.Seq.{ext_get_or, length-take-le, get_or-take, get_or-drop, get_or-append-add}
-use Rattle.model.specs.declared.Pair.{Pair}
 use Rattle.model.specs.Tables.{Row, Table, no_row, row_at, pair_at}
 use Rattle.model.specs.Calls.{without_row}
-use Rattle.ordering.specs.declared.Ordering.TheVariants.{Less}
-use Rattle.ordering.specs.Order.{order_of, is_less}
+use Rattle.ordering.specs.Order.{is_less}
 use Rattle.store.specs.Layout.{count_of, floor_of, place_of, row_in, length_in, pair_start, pair_from, pair_in, suffix_in, laid_table, keys_known, order_rule, layout_rule}
 use Rattle.store.proofs.Codec.{known_ext, pair_at_ext}
 use Rattle.store.proofs.Laid.{Laid, laid, lays, ascends, shows}

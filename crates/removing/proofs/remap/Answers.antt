@@ -1,5 +1,4 @@
 -- `removing::remap` meets its contract. The loop's invariant: the map of the first i rows is done. Assumes nothing.
-use Prim.Native.Nat.{◌-◌}
 use mathlib.Core.Path.{◌≡◌}
 use native.Mathlib.Omega.{arith}
 use Rattle.removing.proofs.Moving.{remapped_none, remapped_more}

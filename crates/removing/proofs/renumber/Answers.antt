@@ -1,5 +1,4 @@
 -- `removing::renumber` meets its contract. The loop's invariant: the rows at the first q places are done. Assumes nothing.
-use Prim.Native.Nat.{◌-◌}
 use mathlib.Core.Path.{◌≡◌}
 use native.Mathlib.Omega.{arith}
 use Rattle.removing.proofs.Moving.{renumbered_none, renumbered_more}

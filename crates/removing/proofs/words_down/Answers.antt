@@ -1,5 +1,4 @@
 -- `removing::words_down` meets its contract. The loop's invariant: what lies below i has moved. Assumes nothing.
-use Prim.Native.Nat.{◌-◌}
 use mathlib.Core.Path.{◌≡◌}
 use native.Mathlib.Omega.{arith}
 use Rattle.removing.proofs.Moving.{moved_none, moved_more}

@@ -1,5 +1,4 @@
 -- `ruling::rules_ok` meets its contract. The loop's invariant: the rules are what is left of them from the place q on. Assumes nothing.
-use Prim.Native.Nat.{◌-◌}
 use mathlib.Core.Path.{sym, ◌∙◌}
 use native.Mathlib.Nat.{sub-zero}
 use native.Mathlib.Omega.{arith}

@@ -1,6 +1,6 @@
 -- `listing::list_into` meets its contract. The loop's invariant: the first i rows stand after the clock's line. The measure is the number of rows that are left.
 -- Assumes nothing.
-use Prim.Native.Nat.{◌+◌, ◌-◌}
+use Prim.Native.Nat.{◌+◌}
 use mathlib.Core.Path.{refl, ap}
 use native.Mathlib.Omega.{arith}
 use lib.ListN.{length, length-append}

@@ -1,6 +1,5 @@
 -- `listing::size` meets its contract. The loop's invariant: the lines of the clock and of the first i rows have this length together, at most 541 octets a row.
 -- The measure is the number of rows that are left. Assumes nothing.
-use Prim.Native.Nat.{◌-◌}
 use mathlib.Core.Path.{ap}
 use native.Mathlib.Omega.{arith}
 use lib.ListN.{length, length-append}

@@ -3,9 +3,8 @@ use Prim.Native.Nat.{ℕ, ◌≤◌, ◌<◌}
 use mathlib.Core.Bool.{Bool, true, false, cond, ◌&&◌}
 use mathlib.Core.Path.{◌≡◌, refl, sym, ap, ◌∙◌, subst}
 use mathlib.Core.Option.{Option, none, some}
-use mathlib.Core.List.{List, map}
+use mathlib.Core.List.{List}
 use native.Mathlib.Omega.{arith}
-use lib.Dec.{ltb}
 use lib.ListN.{length, take}
 use lib.Seq.{take_all, take-take, length-take-le}
 use borrow.Author.Tests.{lt-ltb, le-ltb}
@@ -16,13 +15,12 @@ use Rattle.model.specs.declared.Stated.{Stated}
 use Rattle.model.specs.Pairs.{with_keys}
 use Rattle.model.specs.Tables.{names_of, suffix_ok, pair_rule}
 use Rattle.model.specs.Calls.{TABLE, TWIN, FULL, LINE}
-use Rattle.model.specs.Loading.{Entry, unread, says, Judged, keeps, drops, sound_row, judged}
+use Rattle.model.specs.Loading.{unread, says, keeps, drops, sound_row, judged}
 use Rattle.model.specs.Lines.{given}
 use Rattle.model.proofs.Forward.{key_added, entry_added}
 use Rattle.model.proofs.Tests.{left}
 use Rattle.rules.proofs.Laws.{suffix_long, suffix_short}
 use Rattle.store.specs.Layout.{clock_of, count_of, layout_rule, table_of}
-use Rattle.store.proofs.Laid.{laid}
 use Rattle.outcomes.proofs.Laws.{shown_count}
 use Rattle.inserting.specs.Insert.{Ready}
 use Rattle.searching.specs.declared.Found.{Found}
@@ -33,9 +31,7 @@ use Rattle.lines.specs.declared.PairLine.TheVariants as PairLine
 use Rattle.entries.specs.declared.Open.{Open}
 use Rattle.entries.specs.declared.Open.TheVariants.{Unread, Wrong, Says}
 use Rattle.entries.specs.declared.Keyed.{Keyed}
-use Rattle.entries.specs.declared.Keyed.TheVariants as Keyed
 use Rattle.entries.specs.declared.Placed.{Placed}
-use Rattle.entries.specs.declared.Placed.TheVariants as Placed
 use Rattle.entries.specs.declared.Judgement.{Judgement}
 use Rattle.entries.specs.declared.Judgement.TheVariants.{Keeps, Drops}
 use Rattle.entries.specs.Entries.{entry_shown, keyed_shown, KeyAdded, Begun, judged_shown, placed_shown, Fitting, PlaceFor, Insertable, EntryJudged}

@@ -13,14 +13,11 @@ use Rattle.store.specs.Stored.{Gap}
 use Rattle.inserting.specs.Insert.{Ready}
 use Rattle.lines.specs.declared.KeyLine.{KeyLine}
 use Rattle.lines.specs.declared.PairLine.{PairLine}
-use Rattle.lines.specs.declared.PairLine.TheVariants as PairLine
 use Rattle.lines.specs.Read.{key_shown, pair_shown}
 use Rattle.entries.specs.declared.Open.{Open}
 use Rattle.entries.specs.declared.Open.TheVariants.{Unread, Wrong, Says}
 use Rattle.entries.specs.declared.Keyed.{Keyed}
-use Rattle.entries.specs.declared.Keyed.TheVariants as Keyed
 use Rattle.entries.specs.declared.Placed.{Placed}
-use Rattle.entries.specs.declared.Placed.TheVariants as Placed
 use Rattle.entries.specs.declared.Judgement.{Judgement}
 use Rattle.entries.specs.declared.Judgement.TheVariants.{Keeps, Drops}
 

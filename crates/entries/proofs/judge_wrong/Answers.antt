@@ -1,10 +1,8 @@
 use Rattle.entries.proofs.Laws.{wrong_dropped, wrong_at}
 use Rattle.entries.proofs.judge_wrong.Goals as goal
 
--- src/lib.rt:151:1
 pub returns-in-Drops : goal.returns-in-Drops
 returns-in-Drops c = wrong_dropped _ _ _ _ c.place_for.ensures _ c.in-Drops.is
 
--- src/lib.rt:151:1
 pub returns-in-At : goal.returns-in-At
 returns-in-At c = wrong_at _ _ _ _ c.place_for.ensures _ c.in-At.is

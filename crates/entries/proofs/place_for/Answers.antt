@@ -3,18 +3,14 @@ use Rattle.store.proofs.Laid.{laid}
 use native.Mathlib.Omega.{arith}
 use Rattle.entries.proofs.place_for.Goals as goal
 
--- src/lib.rt:126:22
 pub bounds-words-1 : goal.bounds-words-1
 bounds-words-1 c = omega (arith, (laid c.args.words.now c.args.suffixes.now c.requires).words)
 
--- src/lib.rt:127:17
 pub returns-then-words-ge64 : goal.returns-then-words-ge64
 returns-then-words-ge64 c = place_full _ _ _ c.requires _ c.find.ensures _ c.in-Missing.is c.if-words-ge64.true
 
--- src/lib.rt:119:1
 pub returns-in-Row : goal.returns-in-Row
 returns-in-Row c = place_twin _ _ _ c.requires _ c.find.ensures _ c.in-Row.is
 
--- src/lib.rt:119:1
 pub returns-else-words-ge64 : goal.returns-else-words-ge64
 returns-else-words-ge64 c = place_at _ _ _ c.requires _ c.find.ensures _ c.in-Missing.is c.if-words-ge64.false

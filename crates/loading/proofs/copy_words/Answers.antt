@@ -5,22 +5,18 @@ use native.Mathlib.Omega.{arith}
 use mathlib.Core.Path.{refl, ◌∙◌}
 use Rattle.loading.proofs.copy_words.Goals as goal
 
--- src/lib.rt:266:5
 pub loop-i-init : goal.loop-i-init
 loop-i-init c = (refl, put_none _)
 
--- src/lib.rt:266:5
 pub loop-i-preserved : goal.loop-i-preserved
 loop-i-preserved c =
     let a = c.args in
     let l = c.loop-i in
     (simp length-set (omega arith), put_turn a.from.now a.to.now l.to l.i l.invariant.1 (omega arith) (omega arith))
 
--- src/lib.rt:261:1
 pub shape_of-to : goal.shape_of-to
 shape_of-to c = c.loop-i.invariant.0
 
--- src/lib.rt:261:1
 pub returns : goal.returns
 returns c =
     let a = c.args in

@@ -1,19 +1,16 @@
 use Rattle.loading.proofs.Ends.{lends_no_words, lends_no_octets, kept_not, kept_both}
 use Rattle.loading.proofs.keep.Goals as goal
 
--- src/lib.rt:278:9
 pub returns-then-words-ne1091 : goal.returns-then-words-ne1091
 returns-then-words-ne1091 c =
     let a = c.args in
     kept_not a.w.now a.s.now a.words.now a.suffixes.now (lends_no_words a.words.now a.suffixes.now c.if-words-ne1091.true)
 
--- src/lib.rt:281:9
 pub returns-then-suffixes-ne8192 : goal.returns-then-suffixes-ne8192
 returns-then-suffixes-ne8192 c =
     let a = c.args in
     kept_not a.w.now a.s.now a.words.now a.suffixes.now (lends_no_octets a.words.now a.suffixes.now c.if-suffixes-ne8192.true)
 
--- src/lib.rt:273:1
 pub returns : goal.returns
 returns c =
     let a = c.args in

@@ -1,10 +1,8 @@
 use Rattle.loading.proofs.Ends.{refused_table, refused_line}
 use Rattle.loading.proofs.load_refused.Goals as goal
 
--- src/lib.rt:294:9
 pub returns-then-n-eq0 : goal.returns-then-n-eq0
 returns-then-n-eq0 c = refused_table _ _ c.first_unread-n.ensures c.if-n-eq0.true
 
--- src/lib.rt:289:1
 pub returns : goal.returns
 returns c = refused_line _ _ c.first_unread-n.ensures c.if-n-eq0.false

@@ -1,29 +1,24 @@
 use Rattle.loading.proofs.Ends.{lends_both, lends_no_words, lends_no_octets, mend_number_lem, mend_misfits, mend_short, mend_whole}
 use Rattle.loading.proofs.mend.Goals as goal
 
--- src/lib.rt:358:9
 pub returns-then-number-ne0 : goal.returns-then-number-ne0
 returns-then-number-ne0 c = mend_number_lem _ _ _ _ _ c.mendable-read.ensures c.if-number-ne0.true c.mend_refused.ensures
 
--- src/lib.rt:361:9
 pub returns-then-words-ne1091 : goal.returns-then-words-ne1091
 returns-then-words-ne1091 c =
     let a = c.args in
     mend_misfits a.text.now a.words.now a.suffixes.now a.named.now _ c.mendable-read.ensures c.if-number-ne0.false (lends_no_words a.words.now a.suffixes.now c.if-words-ne1091.true) c.mend_refused-then-words-ne1091.ensures
 
--- src/lib.rt:364:9
 pub returns-then-suffixes-ne8192 : goal.returns-then-suffixes-ne8192
 returns-then-suffixes-ne8192 c =
     let a = c.args in
     mend_misfits a.text.now a.words.now a.suffixes.now a.named.now _ c.mendable-read.ensures c.if-number-ne0.false (lends_no_octets a.words.now a.suffixes.now c.if-suffixes-ne8192.true) c.mend_refused-then-suffixes-ne8192.ensures
 
--- src/lib.rt:367:9
 pub returns-then-named-dropped : goal.returns-then-named-dropped
 returns-then-named-dropped c =
     let a = c.args in
     mend_short a.text.now a.words.now a.suffixes.now a.named.now _ c.mendable-read.ensures c.if-number-ne0.false (lends_both a.words.now a.suffixes.now c.if-words-ne1091.false c.if-suffixes-ne8192.false) c.if-named-dropped.true c.mend_refused-then-named-dropped.ensures
 
--- src/lib.rt:351:1
 pub returns : goal.returns
 returns c =
     let a = c.args in

@@ -3,12 +3,10 @@ use borrow.Author.Tests.{ne_eqb}
 use mathlib.Core.Path.{refl}
 use Rattle.loading.proofs.mend_refused.Goals as goal
 
--- src/lib.rt:335:9
 pub returns-then-number-eq18 : goal.returns-then-number-eq18
 unfolding LINE
 returns-then-number-eq18 c = rw c.if-number-eq18.true refl
 
--- src/lib.rt:331:1
 pub returns : goal.returns
 unfolding LINE
 returns c = rw (ne_eqb _ _ c.if-number-eq18.false) refl

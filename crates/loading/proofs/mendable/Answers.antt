@@ -3,7 +3,6 @@ use mathlib.Core.List.{[], ◌∷◌}
 use Rattle.loading.proofs.Ends.{counted}
 use Rattle.loading.proofs.mendable.Goals as goal
 
--- src/lib.rt:322:1
 pub returns : goal.returns
 returns c =
     let k = c.read_into in

@@ -3,22 +3,18 @@ use Rattle.model.specs.Loading.{dropped_from}
 use native.Mathlib.Omega.{arith}
 use Rattle.loading.proofs.name_lines.Goals as goal
 
--- src/lib.rt:41:5
 pub loop-i-init : goal.loop-i-init
 unfolding dropped_from
 loop-i-init c = (omega arith, named_none _ _)
 
--- src/lib.rt:41:5
 pub loop-i-preserved : goal.loop-i-preserved
 loop-i-preserved c =
     let st = c.args in
     let k = c.loop-i in
     (omega arith, named_next st.before st.reason st.first k.i k.invariant.1 c.name_line.ensures)
 
--- src/lib.rt:36:1
 pub shape_of-named : goal.shape_of-named
 shape_of-named c = c.loop-i.invariant.1.size
 
--- src/lib.rt:36:1
 pub returns : goal.returns
 returns c = named_all _ _ _ _ _ c.loop-i.invariant.1 c.loop-i.invariant.0 c.loop-i-test.false

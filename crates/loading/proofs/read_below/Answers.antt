@@ -2,17 +2,14 @@ use Rattle.loading.proofs.Laws.{below_broken, below_done}
 use mathlib.Core.Path.{sym, ◌∙◌}
 use Rattle.loading.proofs.read_below.Goals as goal
 
--- src/lib.rt:170:9
 pub returns-then-not-clock_ok : goal.returns-then-not-clock_ok
 returns-then-not-clock_ok c =
     let a = c.args in
     below_broken a.text.now a.from a.c (sym c.clock_ok.ensures ∙ c.if-not-clock_ok.true) a.words.now a.suffixes.now a.named.now
 
--- src/lib.rt:176:9
 pub walk_lines-dropped-requires : goal.walk_lines-dropped-requires
 walk_lines-dropped-requires c = (c.clear.ensures.layout _ c.requires.1, c.requires.2, c.requires.3)
 
--- src/lib.rt:165:1
 pub returns : goal.returns
 returns c =
     let a = c.args in

@@ -3,22 +3,17 @@ use lib.Seq.{length-take-le}
 use mathlib.Core.Path.{sym}
 use Rattle.loading.proofs.read_into.Goals as goal
 
--- src/lib.rt:189:9
 pub returns-then-text-eq0 : goal.returns-then-text-eq0
 returns-then-text-eq0 c = mend_empty _ c.if-text-eq0.true _ _ _
 
--- src/lib.rt:195:29
 pub slice_bounds-read_clock-end : goal.slice_bounds-read_clock-end
 slice_bounds-read_clock-end c = sym (length-take-le _ _ c.line_end-end.ensures.within)
 
--- src/lib.rt:196:29
 pub read_below-requires : goal.read_below-requires
 read_below-requires c = (c.requires.0, c.requires.1, first_long _ _ c.line_end-end.ensures _ _ c.read_clock.ensures c.in-Is.is, c.line_end-end.ensures.within)
 
--- src/lib.rt:184:1
 pub returns-in-Is : goal.returns-in-Is
 returns-in-Is c = first_read _ _ c.line_end-end.ensures _ _ c.read_clock.ensures c.in-Is.is _ _ _ _ _ c.read_below.ensures
 
--- src/lib.rt:184:1
 pub returns-in-Unread : goal.returns-in-Unread
 returns-in-Unread c = first_unread_lem _ _ c.line_end-end.ensures _ c.read_clock.ensures c.in-Unread.is _ _ _

@@ -1,6 +1,5 @@
 use Rattle.loading.proofs.Laws.{pair_started}
 use Rattle.loading.proofs.start_pair.Goals as goal
 
--- src/lib.rt:68:1
 pub returns : goal.returns
 returns c = pair_started _ _ _ c.read_pair.ensures c.begin-said.ensures

@@ -4,58 +4,45 @@ use native.Mathlib.Omega.{arith}
 use mathlib.Core.Path.{refl, sym, ◌∙◌}
 use Rattle.loading.proofs.walk_lines.Goals as goal
 
--- src/lib.rt:147:5
 pub loop-at-init : goal.loop-at-init
 loop-at-init c = walking_first _ _ _ _ _ _ refl c.requires.0 c.requires.1 c.requires.2
 
--- src/lib.rt:148:13
 pub line_end-end-requires : goal.line_end-end-requires
 line_end-end-requires c = c.loop-at-test.true
 
--- src/lib.rt:149:59
 pub slice_bounds-turn-count : goal.slice_bounds-turn-count
 slice_bounds-turn-count c = omega (arith, c.line_end-end.ensures.more)
 
--- src/lib.rt:149:59
 pub slice_bounds-turn-start : goal.slice_bounds-turn-start
 slice_bounds-turn-start c = omega (arith, c.line_end-end.ensures.more)
 
--- src/lib.rt:149:59
 pub slice_bounds-turn-end : goal.slice_bounds-turn-end
 slice_bounds-turn-end c = omega (arith, c.line_end-end.ensures.within)
 
--- src/lib.rt:149:9
 pub turn-w-requires : goal.turn-w-requires
 turn-w-requires c =
     let v = c.loop-at.invariant in
     (v.layout, omega (arith, v.buffer), v.fits, v.few, omega (arith, v.numbered, c.line_end-end.ensures.more, c.line_end-end.ensures.within))
 
--- src/lib.rt:147:5
 pub loop-at-smaller : goal.loop-at-smaller
 loop-at-smaller c = omega (arith, c.line_end-end.ensures.within, c.line_end-end.ensures.more)
 
--- src/lib.rt:147:5
 pub loop-at-preserved : goal.loop-at-preserved
 loop-at-preserved c = walking_next _ _ _ _ _ _ _ _ _ _ _ c.loop-at.invariant c.line_end-end.ensures c.turn-w.ensures
 
--- src/lib.rt:152:5
 pub settle-requires : goal.settle-requires
 settle-requires c =
     let v = c.loop-at.invariant in
     (v.layout, omega (arith, v.buffer, v.fits), omega (arith, v.few, v.numbered, v.within), omega (arith, v.numbered, v.within))
 
--- src/lib.rt:135:1
 pub shape_of-words : goal.shape_of-words
 shape_of-words c = (laid _ _ c.settle.ensures.layout).words ∙ sym (laid _ _ c.requires.0).words
 
--- src/lib.rt:135:1
 pub shape_of-suffixes : goal.shape_of-suffixes
 shape_of-suffixes c = (laid _ _ c.settle.ensures.layout).octets ∙ sym (laid _ _ c.requires.0).octets
 
--- src/lib.rt:135:1
 pub shape_of-named : goal.shape_of-named
 shape_of-named c = c.settle.ensures.names.size ∙ c.loop-at.invariant.names.size
 
--- src/lib.rt:135:1
 pub returns : goal.returns
 returns c = walking_last _ _ _ _ _ _ _ _ _ _ _ c.loop-at.invariant c.loop-at-test.false c.settle.ensures

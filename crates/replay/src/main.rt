@@ -13,9 +13,10 @@ mod table_lines;
 
 ghost use Rattle.std.specs.Prelude.{◌<◌};
 
-use libc::{STDIN_FILENO, STDOUT_FILENO};
 use model::Resolver;
 use script::{Call, Command};
+use std::io;
+use std::io::Read;
 
 // The run so far: the resolver, the number of the line that is being read, how many octets of it are kept, and whether the run goes on. The table lies in
 // words and octets beside it.
@@ -79,17 +80,31 @@ fn next_number(n: u64) -> u64 {
     if n < 0xffff_ffff_ffff_ffff { n + 1 } else { n }
 }
 
+// Says on standard error what failed and why: in the system's words, without the number that std puts behind them.
+fn say(rt: &(impl Eprint + Alloc), what: &str, error: io::Error) -> io::Result<()> {
+    let said = error.to_string(rt.alloc())?;
+    let words = said.as_str();
+    let why = match words.split_once(" (os error ") {
+        Some((before, _)) => before,
+        None => words,
+    };
+    eprintln!(rt; "replay: {what}: {why}")
+}
+
 // Writes what was printed: whether it could be.
-fn written(text: &[u8]) -> bool {
-    if io::write_all(STDOUT_FILENO, text) {
-        return true;
+fn written(rt: &(impl Print + Eprint + Alloc), text: &[u8]) -> bool {
+    match rt.write_all(text) {
+        Ok(()) => true,
+        Err(error) => {
+            let _ = say(rt, "writing standard output", error);
+            false
+        }
     }
-    os::fail(b"replay: writing standard output");
-    false
 }
 
 // Does a line and prints its result.
 fn end_line(
+    rt: &(impl Print + Eprint + Alloc),
     words: &mut [u64],
     suffixes: &mut [u8],
     r: Run,
@@ -102,7 +117,7 @@ fn end_line(
     let c = script::read_line(line, arena, &mut items[..]);
     let d = perform(words, suffixes, r, c, &items, arena, out, text);
     let resolver = d.resolver;
-    let on = written(print::front(text, d.length));
+    let on = written(rt, print::front(text, d.length));
     Run {
         resolver,
         number: next_number(r.number),
@@ -144,6 +159,7 @@ fn take_line(line: &mut [u8], used: usize, input: &[u8], from: usize) -> Taken {
 
 // Does the line where it ends.
 fn feed_line(
+    rt: &(impl Print + Eprint + Alloc),
     words: &mut [u64],
     suffixes: &mut [u8],
     r: Run,
@@ -155,6 +171,7 @@ fn feed_line(
 ) -> Run {
     if t.ended {
         return end_line(
+            rt,
             words,
             suffixes,
             r,
@@ -189,6 +206,7 @@ struct Fed {
 
 // Takes the input from a place on up to the end of a line, and does the line.
 fn feed_from(
+    rt: &(impl Print + Eprint + Alloc),
     words: &mut [u64],
     suffixes: &mut [u8],
     f: Fed,
@@ -200,12 +218,13 @@ fn feed_from(
 ) -> Fed {
     let r = f.run;
     let t = take_line(line, r.used, input, f.next);
-    let run = feed_line(words, suffixes, r, t, line, arena, out, text);
+    let run = feed_line(rt, words, suffixes, r, t, line, arena, out, text);
     Fed { run, next: t.next }
 }
 
 // Does each line that ends in what was read, until the run ends.
 fn feed(
+    rt: &(impl Print + Eprint + Alloc),
     words: &mut [u64],
     suffixes: &mut [u8],
     run: Run,
@@ -219,7 +238,7 @@ fn feed(
     let mut i = 0;
     while i < input.len() {
         let from = Fed { run: r, next: i };
-        let f = feed_from(words, suffixes, from, input, line, arena, out, text);
+        let f = feed_from(rt, words, suffixes, from, input, line, arena, out, text);
         r = f.run;
         i = go_on(r.on, i, f.next, input.len());
     }
@@ -234,6 +253,7 @@ fn stopped(r: Run) -> Run {
 
 // At the end of the input: a last line without its newline is done too.
 fn finish(
+    rt: &(impl Print + Eprint + Alloc),
     words: &mut [u64],
     suffixes: &mut [u8],
     r: Run,
@@ -244,55 +264,51 @@ fn finish(
 ) -> Run {
     if 0 < r.used {
         let last = print::front(line, r.used);
-        return stopped(end_line(words, suffixes, r, last, arena, out, text));
+        return stopped(end_line(rt, words, suffixes, r, last, arena, out, text));
     }
     stopped(r)
 }
 
-// The run, and what reading on answered.
-#[derive(Clone, Copy)]
-struct Read {
-    run: Run,
-    got: isize,
-}
-
 // Does the lines that a read brought.
 fn took(
+    rt: &(impl Print + Eprint + Alloc),
     words: &mut [u64],
     suffixes: &mut [u8],
-    read: Read,
+    r: Run,
+    got: io::Result<usize>,
     input: &[u8],
     line: &mut [u8],
     arena: &mut [u8],
     out: &mut [u8],
     text: &mut [u8],
 ) -> Run {
-    let r = read.run;
-    if read.got < 0 {
-        os::fail(b"replay: reading standard input");
-        return stopped(r);
+    match got {
+        Err(error) => {
+            let _ = say(rt, "reading standard input", error);
+            stopped(r)
+        }
+        Ok(0) => finish(rt, words, suffixes, r, line, arena, out, text),
+        Ok(n) => {
+            let new = print::front(input, n);
+            feed(rt, words, suffixes, r, new, line, arena, out, text)
+        }
     }
-    let n = io::count(read.got, input);
-    if n == 0 {
-        return finish(words, suffixes, r, line, arena, out, text);
-    }
-    let new = print::front(input, n);
-    feed(words, suffixes, r, new, line, arena, out, text)
 }
 
-fn turn(
+fn turn<R: Print + Eprint + Alloc, I: Read>(
+    rt: &R,
+    stdin: &mut I,
     words: &mut [u64],
     suffixes: &mut [u8],
-    run: Run,
+    r: Run,
     input: &mut [u8],
     line: &mut [u8],
     arena: &mut [u8],
     out: &mut [u8],
     text: &mut [u8],
 ) -> Run {
-    let got = libc::read(STDIN_FILENO, input);
-    let read = Read { run, got };
-    took(words, suffixes, read, input, line, arena, out, text)
+    let got = stdin.read(input);
+    took(rt, words, suffixes, r, got, input, line, arena, out, text)
 }
 
 fn turns_left(on: bool, turns: u64) -> u64
@@ -303,7 +319,9 @@ fn turns_left(on: bool, turns: u64) -> u64
 }
 
 // Reads until the run ends. A proved loop has to end, and nothing says that the input does: so the loop counts its turns down, from a number that no run uses up.
-fn run_all(
+fn run_all<R: Print + Eprint + Alloc, I: Read>(
+    rt: &R,
+    stdin: &mut I,
     words: &mut [u64],
     suffixes: &mut [u8],
     start: Run,
@@ -316,12 +334,12 @@ fn run_all(
     let mut r = start;
     let mut turns: u64 = 0xffff_ffff_ffff_ffff;
     while 0 < turns {
-        r = turn(words, suffixes, r, input, line, arena, out, text);
+        r = turn(rt, stdin, words, suffixes, r, input, line, arena, out, text);
         turns = turns_left(r.on, turns);
     }
 }
 
-fn main() {
+fn main(rt: HostRuntime) {
     let mut words = [0u64; 1091];
     let mut suffixes = [0u8; 8192];
     operator::new_table(&mut words[..], &suffixes[..], 0);
@@ -338,6 +356,8 @@ fn main() {
         on: true,
     };
     run_all(
+        &rt,
+        &mut rt.stdin(),
         &mut words,
         &mut suffixes,
         start,

@@ -2,6 +2,7 @@
 #
 #   make                    proves what they hold and builds target/staticlib/libluffcringle.a (all) and libluffcringle-office.a (signatures and the resolver),
 #                           and target/bin/listing, the program that reads and mends listings
+#   make target/bin/replay  proves and builds the program that replays a script of calls; and so target/bin/longest, which measures the name reader
 #   make install            installs both, the header, a file for pkg-config for each, and the program as luffcringle-listing; PREFIX, INCLUDEDIR, LIBDIR,
 #                           BINDIR and DESTDIR say where
 #   make uninstall          removes what was installed
@@ -23,15 +24,16 @@ crates := capi capi_listing capi_compare $(office_crates)
 archives := $(built)/libluffcringle.a $(built)/libluffcringle-office.a
 packages := luffcringle luffcringle-office
 program := target/bin/listing
+replayed := target/bin/replay target/bin/longest
 
-.PHONY: all objects install uninstall
+.PHONY: all objects install uninstall proved
 
 all: $(archives) $(program)
 
 # Each crate's archive has one object; what is out of date is for rt to say.
 objects:
-	for crate in $(crates); do rt staticlib $$crate | tail -n 1 || exit 1; done
-	cd $(built) && for crate in $(crates); do ar x lib$$crate.a || exit 1; done
+	for crate in $(crates); do (cd crates/$$crate && rt lib) | tail -n 1 || exit 1; done
+	mkdir -p $(built) && cd $(built) && for crate in $(crates); do ar x ../../crates/$$crate/out/lib$$crate.a || exit 1; done
 
 $(built)/libluffcringle.a: objects
 	rm -f $@ && cd $(built) && ar rcsD $(@F) $(crates:=.o)
@@ -41,6 +43,11 @@ $(built)/libluffcringle-office.a: objects
 
 $(program): bindings/c/listing.c include/luffcringle.h $(built)/libluffcringle.a
 	mkdir -p $(@D) && $(CC) -std=c11 -Wall -Wextra $(CFLAGS) -Iinclude $< $(LDFLAGS) $(built)/libluffcringle.a -o $@
+
+# rt run proves and builds a program, and runs it, here on no input.
+$(replayed): target/bin/%: proved
+	(cd crates/$* && rt run </dev/null 2>&1 >/dev/null) | tail -n 1
+	mkdir -p $(@D) && cp crates/$*/out/$* $@
 
 install: all
 	$(INSTALL) -d $(DESTDIR)$(INCLUDEDIR) $(DESTDIR)$(LIBDIR)/pkgconfig $(DESTDIR)$(BINDIR)

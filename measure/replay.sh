@@ -1,5 +1,6 @@
 #!/usr/bin/env bash
-# The least stack, in KiB to 4, on which the replay program does the generator's worst messages and the examples. Needs target/bin/replay (rt check replay). Measured with an empty environment and the stack's place fixed: both lie on the stack.
+# The least stack, in KiB to 4, on which the replay program does the generator's worst messages and the examples. Needs target/bin/replay
+# (make target/bin/replay). Measured with an empty environment and the stack's place fixed: both lie on the stack.
 set -euo pipefail
 cd "$(dirname "$0")/.."
 replay=$PWD/target/bin/replay

@@ -23,7 +23,7 @@ use Rattle.guarantees.proofs.Runs.{frame_next}
 use Rattle.octets.specs.Wrote.{Wrote}
 use Rattle.octets.proofs.Laws.{wrote_tail, wrote_length, wrote_put, wrote_as, then, put_none}
 use Rattle.octets.proofs.Back.{wrote_none}
-use Rattle.store.specs.Layout.{place_of, pair_start, table_of}
+use Rattle.store.specs.Layout.{place_of, table_of}
 use Rattle.locating.proofs.Owners.{row_in}
 use Rattle.outcomes.proofs.Laws.{rules_layout, shown_words, row_few, after_clock}
 use Rattle.results.specs.Words.{answer_words}
@@ -234,6 +234,7 @@ names_on t c = ap (λ (f : Frame). f.names) (frame_next t c)
 -- a word outside of what the items belong to is outside of what the i-th belongs to; the words before the first pair are outside of all
 of_item : (octets w s items : List ℕ) (n k i j : ℕ) → i < n → OfNone octets w s (items_from items n k) j → Outside w (item_owner octets w s (item_at items (k + i))) j
 unfolding items_from
+of_item octets w s items zero k i j h o = elim h [ ]
 of_item octets w s items (suc n) k zero j h o = let e : k + 0 ≡ k = omega arith in rw e o.0
 of_item octets w s items (suc n) k (suc i) j h o =
     let e : (k + 1) + i ≡ k + suc i = omega arith in
@@ -362,7 +363,7 @@ module _ (w s octets a b : List ℕ) (xs : List BatchItem) where
     turn_number : (t : Table) (room : ℕ) (xs : List BatchItem) → (in_turn octets t room xs).number ≡ 0
     unfolding in_turn DONE
     turn_number t room [] = refl
-    turn_number t room (x ∷ xs) = turn_number _ _ xs
+    turn_number t room (x ∷ xs) = turn_number (called t (item_call octets room x)).table _ xs
 
     pub shows_turn : batch_ok octets xs ≡ true → {w' a' b' : List ℕ} → TurnShows octets xs w s w' a a' b b' → BatchShows octets xs w s w' a a' b b' 0
     unfolding batch_on DONE

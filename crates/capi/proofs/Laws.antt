@@ -10,7 +10,7 @@ use Rattle.model.specs.Calls.{Result}
 use Rattle.outcomes.specs.Ends.{Served}
 use Rattle.store.specs.Layout.{table_of}
 use Rattle.operator.specs.Made.{Made}
-use Rattle.operator.proofs.Laws.{new_in}
+use Rattle.operator.proofs.Laws.{new_in_lem}
 use Rattle.server.specs.Serve.{Answered}
 use Rattle.capi.specs.Told.{Told, Lent, NewLent, MessageLent}
 
@@ -34,7 +34,7 @@ pub new_lent :
     → Told a words r
     → NewLent time w s w' words r
 new_lent {time} {w} {s} long wide v t =
-    let says = v.says ∙ new_in time w s long wide (table_of w s) in
+    let says = v.says ∙ new_in_lem time w s long wide (table_of w s) in
     record {
       table = ap (λ (x : Result). x.table) says;
       told = told_as (ap (λ (x : Result). x.outcome.answer) says) t;

@@ -351,7 +351,7 @@ turn_same octets a room (x ∷ xs) z =
 sized_turn : (octets : List ℕ) (a : Array) (room : ℕ) (xs : List BatchItem) → Sized a → Sized (turn_in octets a room xs).0
 unfolding turn_in
 sized_turn octets a room [] z = z
-sized_turn octets a room (x ∷ xs) z = sized_turn octets _ _ xs (sized_after a (call (item_call octets room x)) z)
+sized_turn octets a room (x ∷ xs) z = sized_turn octets (operated_in a (call (item_call octets room x))).0 _ xs (sized_after a (call (item_call octets room x)) z)
 
 module _ (octets : List ℕ) (a : Array) (room : ℕ) (xs : List BatchItem) (z : Sized a) where
   batch_same : (b o : Bool)

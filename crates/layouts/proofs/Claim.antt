@@ -18,7 +18,7 @@ use native.Mathlib.Omega.{arith}
 use Rattle.model.proofs.Tests.{not_so}
 use Rattle.store.specs.Layout.{layout_rule, table_of}
 use Rattle.store.proofs.Laid.{laid, ascends}
-use Rattle.operator.proofs.Laws.{new_in}
+use Rattle.operator.proofs.Laws.{new_in_lem}
 use Rattle.checking.proofs.Laws.{layout_words, layout_octets}
 use Rattle.ruling.proofs.Laws.{broken_layout}
 use Rattle.loading.specs.declared.Ended as loading
@@ -41,6 +41,10 @@ module _ {A B : Type 0} (v : A → Table) (u : B → Table) where
       → Ran u y os other
       → seen v run ≡ seen u other
   alike x y [] [] [] e r q = refl
+  alike x y [] [] (b ∷ other) e r q = elim q [ ]
+  alike x y [] (a ∷ run) other e r q = elim r [ ]
+  alike x y (o ∷ os) [] other e r q = elim r [ ]
+  alike x y (o ∷ os) (a ∷ run) [] e r q = elim q [ ]
   alike x y (o ∷ os) (a ∷ run) (b ∷ other) e r q =
       let one : ◌≡◌ {A = Batched} (record { number = a.1.0; table = v a.0; outcomes = a.1.1 }) (record { number = b.1.0; table = u b.0; outcomes = b.1.1 }) = sym r.0 ∙ ap (λ (t : Table). acted t o) e ∙ q.0 in
       let then : v a.0 ≡ u b.0 = ap (λ (z : Batched). z.table) one in
@@ -100,7 +104,7 @@ mends_do text w s named w' s' named' m fits v =
 contracts : Contracts
 unfolding shown_in acted operated issue_on revoke_on look_on message_on buffer_after batch_buffer
 contracts = record {
-  news = λ time w s w' a long wide v. ap single (sym (v.says ∙ new_in time w s long wide (table_of w s)));
+  news = λ time w s w' a long wide v. ap single (sym (v.says ∙ new_in_lem time w s long wide (table_of w s)));
   loads = λ text w s w' s' e long wide v. loads_do text w s w' s' e (lends_both w s long wide) v;
   mends = λ text w s named w' s' named' m long wide v. mends_do text w s named w' s' named' m (lends_both w s long wide) v;
   enrols = λ time suffix lifetime fresh algorithm w s w' s' a v. ap single (sym v.says);

@@ -5,7 +5,6 @@ use Rattle.model.specs.declared.Algorithm.{Algorithm}
 use Rattle.model.specs.Tables.{every}
 use Rattle.model.specs.Lines.{plain_number, suffix_said, given, field, no_more, worded}
 use Rattle.lines.specs.declared.Place.{Place}
-use Rattle.lines.specs.declared.Place.TheVariants as Place
 use Rattle.lines.specs.declared.NumberField.{NumberField}
 use Rattle.lines.specs.declared.NumberField.TheVariants as Number
 use Rattle.lines.specs.declared.StateField.{StateField}
@@ -15,7 +14,6 @@ use Rattle.lines.specs.declared.AlgorithmField.TheVariants as Algorithm
 use Rattle.lines.specs.declared.SuffixField.{SuffixField}
 use Rattle.lines.specs.declared.SuffixField.TheVariants as Suffix
 use Rattle.lines.specs.declared.Numbers.{Numbers}
-use Rattle.lines.specs.declared.Numbers.TheVariants as Numbers
 
 -- ── By places ───────────────────────────────────────────────────────────────────────────────────────────────────────
 

@@ -2,18 +2,16 @@
 -- Assumes nothing.
 use Prim.Native.Nat.{ℕ}
 use mathlib.Core.Path.{◌≡◌, refl}
-use mathlib.Core.Bool.{Bool, true, false}
-use mathlib.Core.Option.{some, none}
-use mathlib.Core.List.{List, [], ◌∷◌, ◌++◌}
-use Rattle.model.specs.declared.Keys.{Keys}
+use mathlib.Core.Bool.{true, false}
+use mathlib.Core.List.{List, [], ◌∷◌}
 use Rattle.model.specs.declared.Keys.TheVariants.{Empty, Adopted}
 use Rattle.model.specs.Names.{key_name}
 use Rattle.model.specs.Tables.{Row, Table, table_rules}
 use Rattle.model.specs.Calls.{Result, message, empty_table, new_table}
-use Rattle.model.specs.Runs.{Operation, enrol, close, call, operated, operated_all, key_made, names_made}
+use Rattle.model.specs.Runs.{enrol, close, call, operated, operated_all, names_made}
 use Rattle.model.proofs.Requests.{unkeyed, suffix, other_suffix, ordinary}
 use Rattle.model.proofs.Running.{after}
-use Rattle.model.proofs.Day.{key, first}
+use Rattle.model.proofs.Day.{key}
 use Rattle.model.proofs.Edges.{row, number, done, refused, enrolled, rows_of}
 
 -- A table with this floor; what a call leaves of it.

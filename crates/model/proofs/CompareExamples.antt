@@ -1,6 +1,6 @@
 -- Worked examples of judging another server's replies (02, CR 12), computed by antt: our granted renewal against replies that mean the same, and
 -- against others, each with the place of the first field that differs. Assumes nothing.
-use Prim.Native.Nat.{ℕ, ◌+◌}
+use Prim.Native.Nat.{ℕ}
 use mathlib.Core.Path.{◌≡◌, refl}
 use mathlib.Core.Bool.{true, false}
 use mathlib.Core.List.{List, [], ◌∷◌, ◌++◌}

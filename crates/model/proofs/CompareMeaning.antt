@@ -1,6 +1,6 @@
 -- Two messages that read (02, CR 12): a difference in the number of fields shows at a count first, and where the meanings are equal a reader of messages
 -- sees the same, up to the case of names. Assumes nothing.
-use Prim.Native.Nat.{ℕ, ◌+◌, ◌-◌, ◌/◌, ◌%◌, ◌<◌}
+use Prim.Native.Nat.{ℕ, ◌+◌, ◌/◌, ◌%◌, ◌<◌}
 use mathlib.Core.Path.{◌≡◌, refl, sym, ap, ap₂, ◌∙◌}
 use mathlib.Core.Bool.{Bool, true, false, cond, false≢true}
 use mathlib.Core.Logic.{inl, inr}
@@ -16,7 +16,7 @@ use Rattle.model.specs.Names.{read_plain, same_name}
 use Rattle.model.specs.Messages.{Question, Record, Message, response_of, opcode_of, desired_of, message_of}
 use Rattle.model.specs.Tkey.{tkey_type}
 use Rattle.model.specs.Calls.{DIFFERS, DONE}
-use Rattle.model.specs.Compare.{name, octets, Placed, header_fields, question_form, tkey_end, tkey_middle, tkey_fields, data_fields, record_form, question_fields, fields_from, records_fields, fields_of, same_octets, same_field, same_fields, SameMeaning, first_difference, verdict, FirstAt, compared, Each, SameQuestion, SameData, whole, cased, SameRecord, SameMessage, Proper, Allowed}
+use Rattle.model.specs.Compare.{octets, Placed, header_fields, question_form, tkey_end, tkey_middle, tkey_fields, data_fields, record_form, question_fields, fields_from, records_fields, fields_of, same_octets, same_field, same_fields, SameMeaning, first_difference, verdict, FirstAt, compared, Each, SameQuestion, SameData, whole, cased, SameRecord, SameMessage, Proper, Allowed}
 use Rattle.model.proofs.Tests.{left, right}
 use Rattle.model.proofs.NameLaws.{same_length}
 use Rattle.model.proofs.CompareLaws.{octets_same, proper_some, by_fields, only_accepted}

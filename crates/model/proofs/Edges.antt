@@ -12,11 +12,10 @@ use Rattle.model.specs.declared.Algorithm.TheVariants.{Sha256, Sha384, Sha512}
 use Rattle.model.specs.declared.Key.{Key}
 use Rattle.model.specs.declared.Keys.{Keys}
 use Rattle.model.specs.declared.Keys.TheVariants.{Empty, Adopted, Renewing}
-use Rattle.model.specs.declared.Answer.{Answer}
 use Rattle.model.specs.Names.{key_name, algorithm_name}
 use Rattle.model.specs.Tables.{Row, Table, table_rules}
 use Rattle.model.specs.Replies.{record_octets}
-use Rattle.model.specs.Calls.{Outcome, Result, empty_table, new_table, size_ok, room_for, Call, issue, revoke, look, message, owner_of, buffer_after}
+use Rattle.model.specs.Calls.{Outcome, Result, new_table, size_ok, room_for, Call, issue, revoke, look, message, owner_of, buffer_after}
 use Rattle.model.specs.Runs.{Operation, enrol, call, operated}
 use Rattle.model.proofs.Requests.{unkeyed, suffix, other_suffix, header_of, header, question, root_query, stamp, tsig, ordinary, renewal_by}
 use Rattle.model.proofs.Running.{after}

@@ -1,10 +1,9 @@
 -- Edges of Granted, computed by antt: 02, CR 1. Where a reply brings key data and where none, a state to start from, and an algorithm by its number. Assumes
 -- nothing.
-use Prim.Native.Nat.{ℕ}
 use mathlib.Core.Path.{◌≡◌, refl}
-use mathlib.Core.Bool.{Bool, true, false}
-use mathlib.Core.Option.{Option, none, some}
-use mathlib.Core.List.{List, [], ◌∷◌, ◌++◌}
+use mathlib.Core.Bool.{true, false}
+use mathlib.Core.Option.{none, some}
+use mathlib.Core.List.{[], ◌∷◌, ◌++◌}
 use lib.ListN.{replicate}
 use Rattle.model.specs.declared.Algorithm.TheVariants.{Sha256, Sha384}
 use Rattle.model.specs.declared.Holding.TheVariants as Holding
@@ -13,9 +12,9 @@ use Rattle.model.specs.declared.OpenRequest.TheVariants as OpenRequest
 use Rattle.model.specs.declared.Resolver.{Resolver}
 use Rattle.model.specs.Names.{key_name, algorithm_name}
 use Rattle.model.specs.Resolver.{unwritten}
-use Rattle.model.specs.Granted.{key_named, starting_with, Hold, unheld, held, numbered_renewal, key_data_of, accepted_data, no_data, granted_data}
+use Rattle.model.specs.Granted.{key_named, starting_with, unheld, held, numbered_renewal, key_data_of, accepted_data, no_data, granted_data}
 use Rattle.model.proofs.Requests.{suffix, key_record}
-use Rattle.model.proofs.ResolverEdges.{open_all, first, second, state, awaiting, reply, tkey, good, lost, other_id, bare, before}
+use Rattle.model.proofs.ResolverEdges.{open_all, first, state, awaiting, reply, tkey, good, lost, other_id, bare, before}
 
 unfoldable open_granted : Resolver → Resolver
 unfolding open_all key_named starting_with unheld held numbered_renewal key_data_of accepted_data no_data granted_data

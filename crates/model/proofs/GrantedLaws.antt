@@ -1,6 +1,6 @@
 -- Granted's key data and Resolver's reading call are of one mind. Assumes nothing.
 use Prim.Native.Nat.{ℕ}
-use mathlib.Core.Path.{◌≡◌, refl, sym, ap, ◌∙◌}
+use mathlib.Core.Path.{◌≡◌, refl, sym, ◌∙◌}
 use mathlib.Core.Bool.{Bool, true, false, cond, ◌&&◌, false≢true}
 use mathlib.Core.Option.{Option, none, some, none-ne-some, some-injective}
 use mathlib.Core.List.{List}
@@ -10,21 +10,18 @@ use Rattle.model.specs.declared.Algorithm.{Algorithm}
 use Rattle.model.specs.declared.Named.{Named}
 use Rattle.model.specs.declared.Named.TheVariants.{Known, Unknown}
 use Rattle.model.specs.declared.Holding.{Holding}
-use Rattle.model.specs.declared.Holding.TheVariants as Holding
 use Rattle.model.specs.declared.Asking.{Asking}
-use Rattle.model.specs.declared.Asking.TheVariants as Asking
 use Rattle.model.specs.declared.OpenRequest.{OpenRequest}
-use Rattle.model.specs.declared.OpenRequest.TheVariants as OpenRequest
 use Rattle.model.specs.declared.Resolver.{Resolver}
 use Rattle.model.specs.declared.Heard.{Heard}
 use Rattle.model.specs.Octets.{Reading, stops, reads}
 use Rattle.model.specs.Names.{algorithm_named}
 use Rattle.model.specs.Messages.{Record, Message, read_message, of_type}
-use Rattle.model.specs.Tsig.{Tsig, Signature, unsigned, misplaced, well_placed, signature}
+use Rattle.model.specs.Tsig.{Signature, unsigned, misplaced, well_placed, signature}
 use Rattle.model.specs.Tkey.{tkey_type, only}
 use Rattle.model.specs.Checks.{check, check_read}
 use Rattle.model.specs.Calls.{size_ok}
-use Rattle.model.specs.Resolver.{TkeyAnswer, answer_in, answer_of, answers, only_answer, offered_by, renewed_in, moved, moved_by, is_mode, closed, keyless, unheard, rcode_of, accepted, heard, signed_reply, awaited_reply, read_reply}
+use Rattle.model.specs.Resolver.{TkeyAnswer, answer_in, answer_of, answers, only_answer, offered_by, renewed_in, moved, moved_by, is_mode, closed, unheard, rcode_of, accepted, heard, signed_reply, awaited_reply, read_reply}
 use Rattle.model.specs.Granted.{key_data_of, offered_data, renewed_data, moved_data, answered_data, only_data, accepted_data, no_data, signed_data, awaited_data, granted_data}
 
 -- ── What is proved ──────────────────────────────────────────────────────────────────────────────────────────────────

@@ -5,10 +5,9 @@ use mathlib.Core.Path.{◌≡◌, refl}
 use mathlib.Core.Bool.{Bool, true, false}
 use mathlib.Core.Option.{Option, none, some}
 use mathlib.Core.List.{List, [], ◌∷◌, ◌++◌}
-use lib.IntN.{ℤ, pos}
+use lib.IntN.{pos}
 use Rattle.model.specs.declared.Algorithm.{Algorithm}
 use Rattle.model.specs.declared.Algorithm.TheVariants.{Sha256, Sha384, Sha512}
-use Rattle.model.specs.declared.Key.{Key}
 use Rattle.model.specs.declared.Keys.{Keys}
 use Rattle.model.specs.declared.Keys.TheVariants.{Empty, Adopted, Renewing}
 use Rattle.model.specs.Names.{key_name, algorithm_name}
@@ -17,10 +16,10 @@ use Rattle.model.specs.Judging.{in_time}
 use Rattle.model.specs.Replies.{record_octets, tkey_data}
 use Rattle.model.specs.Calls.{Result, message}
 use Rattle.model.specs.Runs.{call, operated}
-use Rattle.model.proofs.Requests.{unkeyed, suffix, other_suffix, header_of, header, question, root_query, stamp_for, stamp, tsig, ordinary, old, key_record, renewal_of, renewal_by, tkey_by}
+use Rattle.model.proofs.Requests.{unkeyed, suffix, other_suffix, header_of, header, question, root_query, stamp_for, stamp, tsig, ordinary, old, key_record, renewal_by, tkey_by}
 use Rattle.model.proofs.Running.{after}
-use Rattle.model.proofs.Day.{Seen, seen, key, first, passes, refuses}
-use Rattle.model.proofs.Edges.{one, two, enrolled, renewing, signed_by}
+use Rattle.model.proofs.Day.{Seen, seen, key, first, passes}
+use Rattle.model.proofs.Edges.{one, two, enrolled, renewing}
 
 -- ── What is looked at ───────────────────────────────────────────────────────────────────────────────────────────────
 

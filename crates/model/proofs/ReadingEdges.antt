@@ -1,7 +1,7 @@
 -- Edges of reading, computed by antt: 01, "Reading": names, messages, what makes a TSIG or a TKEY ill formed, and what is a TKEY request. Assumes nothing.
 use Prim.Native.Nat.{ℕ}
 use mathlib.Core.Path.{◌≡◌, refl}
-use mathlib.Core.Bool.{Bool, true, false}
+use mathlib.Core.Bool.{true, false}
 use mathlib.Core.Option.{Option, none, some}
 use mathlib.Core.List.{List, [], ◌∷◌, ◌++◌}
 use lib.ListN.{replicate}
@@ -13,14 +13,14 @@ use Rattle.model.specs.declared.Mode.TheVariants.{Deletion, Renewal, Adoption, R
 use Rattle.model.specs.declared.Keys.TheVariants.{Adopted}
 use Rattle.model.specs.Octets.{be16, be48, Reading, stops, reads}
 use Rattle.model.specs.Names.{read_name, same_name, key_name, algorithm_name, algorithm_named}
-use Rattle.model.specs.Messages.{Question, Record, Message, read_message}
-use Rattle.model.specs.Tsig.{Tsig, Signature, misplaced, signature, tsig_of}
+use Rattle.model.specs.Messages.{Message, read_message}
+use Rattle.model.specs.Tsig.{Signature, misplaced, signature, tsig_of}
 use Rattle.model.specs.Tkey.{Tkey, mode_of, tkey_of}
 use Rattle.model.specs.Replies.{record_octets, tkey_data}
 use Rattle.model.specs.Runs.{operated}
-use Rattle.model.proofs.Requests.{unkeyed, suffix, header_of, question, root_query, stamp_of, stamp, tsig, old}
+use Rattle.model.proofs.Requests.{suffix, header_of, question, root_query, stamp, tsig, old}
 use Rattle.model.proofs.Running.{after}
-use Rattle.model.proofs.Day.{Seen, seen, at, first, passes}
+use Rattle.model.proofs.Day.{seen, at, first, passes}
 use Rattle.model.proofs.Edges.{enrolled, number}
 
 -- ── Names ───────────────────────────────────────────────────────────────────────────────────────────────────────────

@@ -2,12 +2,10 @@
 -- nothing.
 use Prim.Native.Nat.{ℕ}
 use mathlib.Core.Path.{◌≡◌, refl}
-use mathlib.Core.Bool.{true}
-use mathlib.Core.Option.{Option, none, some}
-use mathlib.Core.List.{List, [], ◌∷◌, ◌++◌, map}
+use mathlib.Core.List.{List, [], ◌∷◌, map}
 use Rattle.model.specs.declared.Keys.TheVariants.{Adopted}
 use Rattle.model.specs.Tables.{Table}
-use Rattle.model.specs.Calls.{Outcome, Call, issue, revoke, look, message, empty_table}
+use Rattle.model.specs.Calls.{Outcome, Call, issue, revoke, look, empty_table}
 use Rattle.model.specs.Runs.{final, log, frame_of, own, own_log, free, free_log, record_of, times_passed, latest, enrol, call, names_made}
 use Rattle.model.proofs.Requests.{suffix, other_suffix, ordinary, renewal_by}
 use Rattle.model.proofs.Running.{after}

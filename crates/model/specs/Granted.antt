@@ -1,17 +1,14 @@
 -- What a router's own program needs of the resolver's half besides Resolver (02, CR 1): a state to start from, a renewal whose algorithm is a number, and
 -- the key data that a granted renewal brings. Assumes nothing.
-use Rattle.std.specs.Prelude.{ℕ, ◌+◌, Bool, true, false, cond, ◌&&◌, List, [], length, replicate, eqb}
+use Rattle.std.specs.Prelude.{ℕ, ◌+◌, Bool, false, cond, ◌&&◌, List, [], length, replicate, eqb}
 use Rattle.std.proofs.Math.Option.{Option, none, some}
 use Rattle.model.specs.declared.Algorithm.{Algorithm}
 use Rattle.model.specs.declared.Named.{Named}
 use Rattle.model.specs.declared.Named.TheVariants.{Known, Unknown}
 use Rattle.model.specs.declared.ResolverKey.{ResolverKey}
 use Rattle.model.specs.declared.Holding.{Holding}
-use Rattle.model.specs.declared.Holding.TheVariants as Holding
 use Rattle.model.specs.declared.Asking.{Asking}
-use Rattle.model.specs.declared.Asking.TheVariants as Asking
 use Rattle.model.specs.declared.OpenRequest.{OpenRequest}
-use Rattle.model.specs.declared.OpenRequest.TheVariants as OpenRequest
 use Rattle.model.specs.declared.Resolver.{Resolver}
 use Rattle.model.specs.Octets.{put, part, u16_at, Reading, stops, reads}
 use Rattle.model.specs.Names.{read_plain, wire_name, algorithm_named, algorithm_numbered}

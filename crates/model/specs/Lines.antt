@@ -4,7 +4,6 @@ use Rattle.std.specs.Prelude.{ℕ, ◌-◌, Bool, true, false, cond, ◌&&◌, �
 use Rattle.std.proofs.Math.Option.{Option, none, some}
 use Rattle.model.specs.declared.Algorithm.{Algorithm}
 use Rattle.model.specs.declared.Algorithm.TheVariants.{Sha256, Sha384, Sha512}
-use Rattle.model.specs.declared.Key.{Key}
 use Rattle.model.specs.declared.Keys.TheVariants.{Empty}
 use Rattle.model.specs.declared.Clocked.{Clocked}
 use Rattle.model.specs.declared.Stated.{Stated}

@@ -4,7 +4,6 @@ use Rattle.std.proofs.Math.Option.{Option, none, some}
 use Rattle.words.specs.declared.Number.{Number}
 use Rattle.words.specs.declared.Number.TheVariants.{Is, None}
 use Rattle.words.specs.declared.Octets.{Octets}
-use Rattle.words.specs.declared.Octets.TheVariants as Octets
 
 abbrev pub number_shown : Number → Option ℕ
 number_shown (Is n) = some n

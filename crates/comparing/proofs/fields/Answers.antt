@@ -1,5 +1,4 @@
 -- `comparing::fields` meets its contract. The loop's invariant: what differs first is what differs first in the widths that are left. Assumes nothing.
-use Prim.Native.Nat.{◌-◌}
 use mathlib.Core.Path.{sym, ◌∙◌}
 use native.Mathlib.Omega.{arith}
 use Rattle.comparing.proofs.Laws.{passing_starts, passing_ends, width_fits, passing_other, passing_on}

@@ -1,5 +1,4 @@
 -- `comparing::same_octets` meets its contract. The loop's invariant: the octets are the same if what is left of them is. Assumes nothing.
-use Prim.Native.Nat.{◌-◌}
 use mathlib.Core.Path.{refl, sym, ◌∙◌}
 use native.Mathlib.Omega.{arith}
 use borrow.Author.Rules.{rules}

@@ -1,6 +1,6 @@
 -- `compression::copy` meets its contract. The loop's invariant: the octets of out before to + i are those that were before `to`, and then i octets of m.
 -- The measure is what is left of n. Assumes nothing.
-use Prim.Native.Nat.{ℕ, ◌<◌, ◌+◌, ◌-◌}
+use Prim.Native.Nat.{ℕ, ◌<◌, ◌+◌}
 use mathlib.Core.Path.{◌≡◌, refl}
 use mathlib.Core.List.{List, ◌++◌, append_assoc, append-nil}
 use native.Mathlib.Omega.{arith}

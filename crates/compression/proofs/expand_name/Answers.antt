@@ -1,5 +1,4 @@
 -- `compression::expand_name` meets its contract: the reading of the whole name is the reading from here. Assumes nothing.
-use Prim.Native.Nat.{◌-◌}
 use mathlib.Core.Path.{ap, ◌∙◌}
 use native.Mathlib.Omega.{arith}
 use borrow.Author.Rules.{rules}

@@ -1,5 +1,4 @@
 -- `compression::follow` meets its contract: whatever the octets before are, the whole name is what is left from here. Assumes nothing.
-use Prim.Native.Nat.{◌-◌}
 use mathlib.Core.Path.{refl, ap, ◌∙◌}
 use native.Mathlib.Omega.{arith}
 use borrow.Author.Rules.{rules}

@@ -1,5 +1,4 @@
 -- `compression::plain_end` meets its contract: the whole name is read on from here, after the octets between. Assumes nothing.
-use Prim.Native.Nat.{◌-◌}
 use mathlib.Core.Path.{ap, ◌∙◌}
 use native.Mathlib.Omega.{arith}
 use Rattle.compression.specs.Name.{item_of}

@@ -1,5 +1,4 @@
 -- `compression::skip` meets its contract: the whole name is what is left from here. Assumes nothing.
-use Prim.Native.Nat.{◌-◌}
 use mathlib.Core.Path.{refl}
 use mathlib.Core.List.{[]}
 use native.Mathlib.Omega.{arith}

@@ -1,6 +1,5 @@
 -- `digests::canonical_into` meets its contract. The loop's invariant: the first i octets of the name stand at the place, in lower case. The measure is what is
 -- left of the name. Assumes nothing.
-use Prim.Native.Nat.{◌-◌}
 use mathlib.Core.Path.{refl}
 use native.Mathlib.Omega.{arith}
 use Rattle.octets.proofs.Laws.{wrote_length}

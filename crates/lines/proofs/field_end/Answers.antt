@@ -1,5 +1,4 @@
 -- `lines::field_end` meets its contract. The loop's invariant: the field goes on from i to where it ends. Assumes nothing.
-use Prim.Native.Nat.{◌-◌}
 use mathlib.Core.Path.{refl}
 use native.Mathlib.Omega.{arith}
 use Rattle.lines.proofs.Laws.{tab_here, newline_here, field_on, field_none}

@@ -1,5 +1,5 @@
 -- `lines::line_end` meets its contract. The loop's invariant: the line goes on from i to where it ends. Assumes nothing.
-use Prim.Native.Nat.{◌+◌, ◌-◌}
+use Prim.Native.Nat.{◌+◌}
 use mathlib.Core.Path.{refl}
 use native.Mathlib.Omega.{arith}
 use Rattle.lines.proofs.Laws.{line_here, line_on, line_none, line_ends}

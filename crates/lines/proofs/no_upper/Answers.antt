@@ -1,5 +1,4 @@
 -- `lines::no_upper` meets its contract. The loop's invariant: no digit is in upper case if none of those left is. Assumes nothing.
-use Prim.Native.Nat.{◌-◌}
 use mathlib.Core.Path.{refl, sym, ◌∙◌}
 use native.Mathlib.Omega.{arith}
 use Rattle.lines.proofs.Laws.{upper_here, upper_on, upper_none}

@@ -1,5 +1,4 @@
 -- `matching::same_names_at` meets its contract: the names are the same where what is left of each is. Assumes nothing.
-use Prim.Native.Nat.{◌-◌}
 use mathlib.Core.Path.{ap, ◌∙◌}
 use native.Mathlib.Omega.{arith}
 use borrow.Author.Rules.{rules}

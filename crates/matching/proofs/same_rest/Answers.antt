@@ -1,5 +1,4 @@
 -- `matching::same_rest` meets its contract: the whole is the same where what is left from here is. Assumes nothing.
-use Prim.Native.Nat.{◌-◌}
 use mathlib.Core.Path.{ap, sym, ◌∙◌}
 use native.Mathlib.Omega.{arith}
 use borrow.Author.Rules.{rules}

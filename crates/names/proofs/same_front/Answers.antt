@@ -1,5 +1,4 @@
 -- `names::same_front` meets its contract. The loop's invariant: the contract, of what has been compared. Assumes nothing.
-use Prim.Native.Nat.{◌-◌}
 use mathlib.Core.Path.{refl, sym, ◌∙◌}
 use native.Mathlib.Omega.{arith}
 use borrow.Author.Rules.{rules}

@@ -1,6 +1,5 @@
 -- `names::wire_name` meets its contract. The loop's invariant: the test is what is left of it from `at` on. Assumes nothing.
 use borrow.Author.Rules.{rules}
-use Prim.Native.Nat.{◌-◌}
 use mathlib.Core.Path.{sym, ◌∙◌}
 use native.Mathlib.Omega.{arith}
 use Rattle.names.proofs.Wire.{from_start, left_none, left_ends, left_high, left_long, left_cut, left_label}

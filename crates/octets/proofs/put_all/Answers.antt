@@ -1,7 +1,6 @@
 -- `octets::put_all` meets its contract. The loop's invariant: the first i octets of s stand at the front of buf, and the rest of buf is as it was.
 -- The measure is what is left of s. Assumes nothing.
 use mathlib.Core.Path.{refl}
-use Prim.Native.Nat.{◌-◌}
 use native.Mathlib.Omega.{arith}
 use lib.ListN.{length-set}
 use Rattle.octets.proofs.Laws.{put_none, put_turn, put_done}

@@ -1,6 +1,5 @@
 -- `text::hex_into` meets its contract. The loop's invariant: the first i octets of s are written. The measure is what is left of s. Assumes nothing.
 use mathlib.Core.Path.{refl, ap}
-use Prim.Native.Nat.{◌-◌}
 use native.Mathlib.Omega.{arith}
 use lib.Seq.{take_all}
 use Rattle.model.specs.Text.{hex_of}

@@ -1,5 +1,4 @@
 -- `words::is_word` meets its contract. The loop's invariant: the words are the same if what is left of them is. Assumes nothing.
-use Prim.Native.Nat.{◌-◌}
 use mathlib.Core.Path.{refl, sym, ◌∙◌}
 use native.Mathlib.Omega.{arith}
 use borrow.Author.Rules.{rules}

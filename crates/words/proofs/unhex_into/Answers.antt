@@ -1,5 +1,5 @@
 -- `words::unhex_into` meets its contract. The loop's invariant: the octets are those read so far, and then those that what is left says. Assumes nothing.
-use Prim.Native.Nat.{ℕ, ◌+◌, ◌-◌, ◌*◌}
+use Prim.Native.Nat.{ℕ, ◌+◌, ◌*◌}
 use mathlib.Core.Path.{refl, sym, ◌∙◌, ap}
 use mathlib.Core.Option.{some}
 use mathlib.Core.List.{List, append-nil}

@@ -2,7 +2,7 @@
 use Prim.Native.Nat.{ℕ, ◌/◌}
 use mathlib.Core.List.{List, [], ◌∷◌}
 use mathlib.Core.Bool.{Bool}
-use mathlib.Core.Path.{◌≡◌, refl, sym, ap, ap₂, ◌∙◌}
+use mathlib.Core.Path.{◌≡◌, sym, ap, ◌∙◌}
 use lib.ListN.{length}
 use Rattle.model.specs.Octets.{put}
 use Rattle.model.specs.Tables.{Table}

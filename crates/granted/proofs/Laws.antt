@@ -13,20 +13,17 @@ use Rattle.model.specs.declared.Algorithm.{Algorithm}
 use Rattle.model.specs.declared.Named.{Named}
 use Rattle.model.specs.declared.Named.TheVariants.{Known, Unknown}
 use Rattle.model.specs.declared.Holding.{Holding}
-use Rattle.model.specs.declared.Holding.TheVariants as Holding
 use Rattle.model.specs.declared.Asking.{Asking}
-use Rattle.model.specs.declared.Asking.TheVariants as Asking
 use Rattle.model.specs.declared.OpenRequest.{OpenRequest}
 use Rattle.model.specs.declared.OpenRequest.TheVariants.{Nothing as NoRequest, Sent}
 use Rattle.model.specs.declared.Resolver.{Resolver}
 use Rattle.model.specs.Octets.{part, u16_at, u32_at, Reading, stops, reads}
 use Rattle.model.specs.Names.{read_plain, algorithm_named}
-use Rattle.model.specs.Messages.{Record, Message, read_message, record_at, of_type}
-use Rattle.model.specs.Tsig.{Tsig, signature}
+use Rattle.model.specs.Messages.{Record, read_message, of_type}
 use Rattle.model.specs.Tkey.{tkey_type, only}
 use Rattle.model.specs.Calls.{size_ok}
 use Rattle.model.specs.Resolver.{TkeyAnswer, answer_other, answer_key, answer_times, answer_named, answer_of, answers, is_mode, rcode_of}
-use Rattle.model.specs.Granted.{key_data_named, key_data_of, offered_data, renewed_data, moved_data, answered_data, only_data, accepted_data, no_data, signed_data, awaited_data, granted_data}
+use Rattle.model.specs.Granted.{key_data_named, key_data_of, offered_data, moved_data, answered_data, only_data, accepted_data, no_data, signed_data, awaited_data, granted_data}
 use Rattle.model.proofs.Plain.{plain_part}
 use Rattle.octets.proofs.Laws.{part_length as length_part}
 use Rattle.matching.specs.Compare.{name_standing}
@@ -36,7 +33,7 @@ use Rattle.records.specs.Record.{Within, cut, shown as shownRecord, RecordSkippe
 use Rattle.records.proofs.Parts.{part_length, part_part}
 use Rattle.messages.specs.declared.Kept.{Kept}
 use Rattle.messages.specs.declared.Kept.TheVariants.{Once}
-use Rattle.messages.specs.Scan.{key_by, key_at}
+use Rattle.messages.specs.Scan.{key_by}
 use Rattle.messages.specs.Answers.{AnswersRead}
 use Rattle.tkey.specs.declared.Layout.{Layout}
 use Rattle.tkey.specs.declared.Layout.TheVariants.{Ill, Fields}
@@ -52,7 +49,7 @@ use Rattle.contents.specs.Contents.{ContentsRead, ReadAs}
 use Rattle.resolver_replies.specs.Hearing.{MessageRead}
 use Rattle.granted.specs.declared.KeyData.{KeyData}
 use Rattle.granted.specs.declared.KeyData.TheVariants.{Nothing, At}
-use Rattle.granted.specs.Brought.{shown, DataFits, DataRead, asks_renewal, renews, brought, brought_by, ContentRead, PlaceRead, KeptRead, AnswerRead, AcceptedRead, SignedRead, AwaitedRead}
+use Rattle.granted.specs.Brought.{DataRead, renews, brought, brought_by, ContentRead, PlaceRead, KeptRead, AnswerRead, AcceptedRead, SignedRead, AwaitedRead}
 
 -- ── Where the key data of a TKEY lies ───────────────────────────────────────────────────────────────────────────────
 

@@ -4,9 +4,7 @@ use Rattle.std.specs.Prelude.{ℕ, ◌≡◌, Bool, true, false, cond, ◌&&◌,
 use Rattle.std.proofs.Math.Option.{Option, none, some}
 use Rattle.model.specs.declared.Span.{Span}
 use Rattle.model.specs.declared.Holding.{Holding}
-use Rattle.model.specs.declared.Holding.TheVariants as Holding
 use Rattle.model.specs.declared.Asking.{Asking}
-use Rattle.model.specs.declared.Asking.TheVariants as Asking
 use Rattle.model.specs.declared.OpenRequest.{OpenRequest}
 use Rattle.model.specs.declared.Resolver.{Resolver}
 use Rattle.model.specs.Names.{algorithm_named}

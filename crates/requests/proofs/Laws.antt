@@ -1,17 +1,14 @@
 -- The pieces of a request, joined as the code writes them, are model's; and their lengths. Assumes nothing.
-use Prim.Native.Nat.{ℕ, ◌+◌, ◌-◌, ◌≤◌, ◌<◌}
+use Prim.Native.Nat.{ℕ, ◌+◌}
 use mathlib.Core.Path.{◌≡◌, refl, sym, ◌∙◌}
-use mathlib.Core.Bool.{Bool, true, false, and-false}
 use mathlib.Core.List.{List, [], ◌++◌, append_assoc, append-nil}
 use native.Mathlib.Omega.{arith}
-use borrow.Author.Tests.{eq-eqb, ne_eqb, eqb-true, eqb-false}
-use lib.Dec.{eqb}
 use lib.ListN.{length, length-append}
 use Rattle.model.specs.declared.Algorithm.{Algorithm}
 use Rattle.model.specs.declared.Algorithm.TheVariants.{Sha256, Sha384, Sha512}
-use Rattle.model.specs.Octets.{be16, be32, u16_at}
-use Rattle.model.specs.Names.{read_plain, algorithm_name}
-use Rattle.model.specs.Tkey.{tkey_type, key_type}
+use Rattle.model.specs.Octets.{be16, be32}
+use Rattle.model.specs.Names.{algorithm_name}
+use Rattle.model.specs.Tkey.{tkey_type}
 use Rattle.model.specs.Tsig.{any_class}
 use Rattle.model.specs.Replies.{record_octets, tkey_data, tkey_record}
 use Rattle.model.specs.Resolver.{request_octets, old_key, renewal_octets, adoption_octets, deletion_octets}

@@ -1,6 +1,4 @@
 -- `capi_listing::luffcringle_load` meets its contract. Assumes nothing.
-use mathlib.Core.Path.{◌≡◌}
-use lib.ListN.{length}
 use Rattle.capi_listing.proofs.Laws.{load_lent}
 use borrow.Author.Rules.{rules}
 use Rattle.capi_listing.proofs.luffcringle_load.Goals as goal

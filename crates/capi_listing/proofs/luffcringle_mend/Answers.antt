@@ -1,6 +1,4 @@
 -- `capi_listing::luffcringle_mend` meets its contract. Assumes nothing.
-use mathlib.Core.Path.{◌≡◌}
-use lib.ListN.{length}
 use Rattle.capi_listing.proofs.Laws.{mend_lent}
 use borrow.Author.Rules.{rules}
 use Rattle.capi_listing.proofs.luffcringle_mend.Goals as goal

@@ -46,7 +46,7 @@ $(program): bindings/c/listing.c include/luffcringle.h $(built)/libluffcringle.a
 
 # rt run proves and builds a program, and runs it, here on no input.
 $(replayed): target/bin/%: proved
-	(cd crates/$* && rt run </dev/null 2>&1 >/dev/null) | tail -n 1
+	(cd crates/$* && rt run </dev/null 2>&1 >/dev/null) | sed -n '/^logic=/p'
 	mkdir -p $(@D) && cp crates/$*/out/$* $@
 
 install: all

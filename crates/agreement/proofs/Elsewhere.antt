@@ -1,7 +1,7 @@
 -- An operation of another pair, or of none, leaves the row of a pair, and so keeps agreement. Assumes nothing.
 use mathlib.Core.Path.{◌≡◌, refl, sym, ap, subst, ◌∙◌}
 use mathlib.Core.Bool.{Bool, true, false, cond, ◌&&◌}
-use mathlib.Core.Option.{Option, none, some}
+use Rattle.std.specs.Prelude.{Option, None, Some}
 use mathlib.Core.List.{List, [], ◌∷◌, ◌++◌}
 use Prim.Native.Nat.{ℕ, zero, suc, ◌+◌, ◌-◌, ◌<◌}
 use native.Mathlib.Omega.{arith}
@@ -29,9 +29,9 @@ module _ (i : ℕ) (t : Table) (h : i < length t.rows) where
   as_it_was = record { row = refl; there = h }
 
   -- a call of another pair, or of none
-  call_keeps : (c : Call) (g : Option ℕ) → gate t (time_of c) ≡ g → ¬ (belongs (frame_of t) c ≡ some i) → Kept i t (called t c).table
-  call_keeps c (some n) e q = subst (λ (x : Table). Kept i t x) (sym (refused_same t c n e)) as_it_was
-  call_keeps c none e q =
+  call_keeps : (c : Call) (g : Option ℕ) → gate t (time_of c) ≡ g → ¬ (belongs (frame_of t) c ≡ Some i) → Kept i t (called t c).table
+  call_keeps c (Some n) e q = subst (λ (x : Table). Kept i t x) (sym (refused_same t c n e)) as_it_was
+  call_keeps c None e q =
       let n : length (called t c).table.rows ≡ length t.rows = same_size (called t c).table t (frame_names (called t c).table t (keeps_frame t c e)) in
       record { row = keeps_others t c e i q; there = omega arith }
 
@@ -75,7 +75,7 @@ module _ (i : ℕ) (t : Table) (h : i < length t.rows) (number : ℕ) (b : i + 1
       row : Kept i t (without_row t (number - 1))
       row = let r = in_front t.rows (number - 1) i (omega arith) h in record { row = r.0; there = r.1 }
 
-      go : (c : Bool) → Kept i t (check_some (unchanged t) NOPAIR (cond c (some (number - 1)) none) (λ k. record { table = without_row t k; outcome = done 0 0 })).table
+      go : (c : Bool) → Kept i t (check_some (unchanged t) NOPAIR (cond c (Some (number - 1)) None) (λ k. record { table = without_row t k; outcome = done 0 0 })).table
       go true = row
       go false = as_it_was i t h
 
@@ -86,18 +86,18 @@ clock_keeps time k = record { row = k.row; there = k.there }
 module _ (i : ℕ) (t : Table) (h : i < length t.rows) where
   enrol_keeps : (time : ℕ) (suffix : List ℕ) (lifetime fresh algorithm : ℕ) (g : Option ℕ) → Kept i t (enrol_passed t time suffix lifetime fresh algorithm g).table
   unfolding unchanged with_clock
-  enrol_keeps time suffix lifetime fresh algorithm (some n) = as_it_was i t h
-  enrol_keeps time suffix lifetime fresh algorithm none = clock_keeps time (enrolled_keeps i (with_clock t time) h suffix lifetime fresh algorithm)
+  enrol_keeps time suffix lifetime fresh algorithm (Some n) = as_it_was i t h
+  enrol_keeps time suffix lifetime fresh algorithm None = clock_keeps time (enrolled_keeps i (with_clock t time) h suffix lifetime fresh algorithm)
 
   close_keeps : (time number : ℕ) → i + 1 < number → (g : Option ℕ) → Kept i t (close_passed t time number g).table
   unfolding unchanged with_clock
-  close_keeps time number b (some n) = as_it_was i t h
-  close_keeps time number b none = clock_keeps time (closed_keeps i (with_clock t time) h number b)
+  close_keeps time number b (Some n) = as_it_was i t h
+  close_keeps time number b None = clock_keeps time (closed_keeps i (with_clock t time) h number b)
 
   keeps : (o : Operation) → Other i t o → Kept i t (operated t o).table
   unfolding operated enrol_on close_on
-  keeps (enrol time suffix lifetime fresh algorithm) q = enrol_keeps time suffix lifetime fresh algorithm (gate t (some time))
-  keeps (close time number) q = close_keeps time number q (gate t (some time))
+  keeps (enrol time suffix lifetime fresh algorithm) q = enrol_keeps time suffix lifetime fresh algorithm (gate t (Some time))
+  keeps (close time number) q = close_keeps time number q (gate t (Some time))
   keeps (call c) q = call_keeps i t h c (gate t (time_of c)) refl q
 
 -- ── Agreement ───────────────────────────────────────────────────────────────────────────────────────────────────────

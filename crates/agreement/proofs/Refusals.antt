@@ -6,9 +6,9 @@ use mathlib.Core.List.{List, [], ◌∷◌}
 use lib.Dec.{eqb, leb}
 use lib.ListN.{length}
 use borrow.Author.Tests.{leb-true}
+use Rattle.std.specs.Prelude.{Option, Some, None}
 use Rattle.model.specs.declared.Algorithm.{Algorithm}
 use Rattle.model.specs.declared.Asking.{Asking}
-use Rattle.model.specs.declared.OpenRequest.{OpenRequest}
 use Rattle.model.specs.declared.Resolver.{Resolver}
 use Rattle.model.specs.declared.SignWith.{SignWith}
 use Rattle.model.specs.Octets.{put}
@@ -22,6 +22,7 @@ use Rattle.model.proofs.Buffers.{put_length}
 use Rattle.model.proofs.Tests.{left, by_check, by_read, by_some}
 use Rattle.guarantees.specs.Refusals.{is_one}
 use Rattle.agreement.specs.Refusals.{Writes, Reads, Refusals}
+use Rattle.model.specs.declared.OpenRequest.{OpenRequest}
 
 -- ── Writing ─────────────────────────────────────────────────────────────────────────────────────────────────────────
 
@@ -78,10 +79,10 @@ module _ (s : Resolver) (good : Bool) (octets : List ℕ) where
       by_check (Reads s) (unheard s) UNSIGNED (unread UNSIGNED refl) good λ _.
       record { listed = refl; keeps = λ n. absurd (n refl); quiet = λ n. absurd (n refl) }
 
-  waits : (o : OpenRequest) (m : Message) → Reads s (awaited_reply s o octets good m)
+  waits : (o : Option OpenRequest) (m : Message) → Reads s (awaited_reply s o octets good m)
   unfolding FORMAT LOST WRONGID UNSIGNED
-  waits OpenRequest.Nothing m = unread LOST refl
-  waits (OpenRequest.Sent id asking) m = by_check (Reads s) (unheard s) WRONGID (unread WRONGID refl) (eqb m.id id) λ _. signs asking m (signature m.records)
+  waits None m = unread LOST refl
+  waits (Some q) m = by_check (Reads s) (unheard s) WRONGID (unread WRONGID refl) (eqb m.id q.id) λ _. signs q.asking m (signature m.records)
 
   hears : Reads s (read_reply s good octets)
   unfolding read_reply FORMAT LOST WRONGID UNSIGNED

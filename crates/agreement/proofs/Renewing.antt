@@ -1,7 +1,8 @@
 -- A renewal gives both the same new key, or neither moves. Assumes nothing.
 use mathlib.Core.Path.{◌≡◌, refl, sym, ap, ap₂, subst, ◌∙◌}
 use mathlib.Core.Bool.{true, false, not}
-use mathlib.Core.Option.{Option, some, none-ne-some, some-injective}
+use Rattle.std.specs.Prelude.{Option, Some}
+use Rattle.std.proofs.lemmas.Option.{none-some, same_Some}
 use mathlib.Core.List.{List, [], ◌∷◌, ◌++◌, append-nil}
 use Prim.Native.Nat.{ℕ, ◌%◌, ◌^◌, ◌<◌}
 use native.Mathlib.Omega.{arith}
@@ -10,7 +11,6 @@ use lib.Dec.{ltb, eqb}
 use lib.ListN.{length, replicate}
 use Rattle.model.specs.declared.Algorithm.{Algorithm}
 use Rattle.model.specs.declared.Algorithm.TheVariants.{Sha256, Sha384, Sha512}
-use Rattle.model.specs.declared.Named.TheVariants.{Known}
 use Rattle.model.specs.declared.Key.{Key}
 use Rattle.model.specs.declared.Keys.{Keys}
 use Rattle.model.specs.declared.Keys.TheVariants.{Empty, Adopted, Renewing}
@@ -52,19 +52,19 @@ use Rattle.agreement.proofs.Writes.{Renewal, wrote_renewal, adopted_is}
 -- A key was granted to both: it waits, the adopted key is as it was but for its partial time, and the first adoption is signed with that.
 pub record Granted (i : ℕ) (b c : Sides) (g : Algorithm) (a : Key) : Type 0 where
   pub old : Key
-  pub adopted : adopted_of (pair_at c.table i).keys ≡ some old
+  pub adopted : adopted_of (pair_at c.table i).keys ≡ Some old
   pub begun : old.inception ≡ a.inception
   pub ends : old.expiry ≡ a.expiry
   pub same : old.algorithm ≡ a.algorithm
   pub waiting : Key
-  pub waits : waiting_of (pair_at c.table i).keys ≡ some waiting
+  pub waits : waiting_of (pair_at c.table i).keys ≡ Some waiting
   pub serial : waiting.serial ≡ (pair_at b.table i).next_serial
   pub algorithm : waiting.algorithm ≡ g
   pub turn : c.resolver.offered_signs ≡ false
   pub agrees : Agree i c
 
 -- an algorithm's name names it
-named_back : (g : Algorithm) → algorithm_named (algorithm_name g) ≡ Known g
+named_back : (g : Algorithm) → algorithm_named (algorithm_name g) ≡ Some g
 unfolding algorithm_named algorithm_name same_name lower_of
 named_back Sha256 = refl
 named_back Sha384 = refl
@@ -103,7 +103,7 @@ module _ (b : Sides) (i : ℕ) (e : Agree i b) (x : Turn) (asked : List ℕ) (g 
   abbrev old : Old
   old = record { name = name_of k; algorithm = algorithm_name k.algorithm }
 
-  olds : old_of 4098 other ≡ some old
+  olds : old_of 4098 other ≡ Some old
   unfolding old_of mode_of renews_or_adopts old_key
   olds = old_back (name_of k) (algorithm_name k.algorithm) named (algorithm_wire k.algorithm)
 
@@ -175,7 +175,7 @@ module _ (b : Sides) (i : ℕ) (e : Agree i b) (x : Turn) (asked : List ℕ) (g 
 
     -- the resolver has it as the offered key
     abbrev offeredNow : Resolver
-    offeredNow = offered_by (closed (asksIn scene)) answer (Known g)
+    offeredNow = offered_by (closed (asksIn scene)) answer (Some g)
 
     offers : renewed_in s.holding (closed (asksIn scene)) answer ≡ offeredNow
     offers = go s.holding refl
@@ -189,26 +189,26 @@ module _ (b : Sides) (i : ℕ) (e : Agree i b) (x : Turn) (asked : List ℕ) (g 
     unfolding name_of
     name_is_lem = put_front new_name (replicate 255 0)
 
-    offered_is : offered_key offeredNow ≡ some offeredNow.offered
+    offered_is : offered_key offeredNow ≡ Some offeredNow.offered
     unfolding offered_key usable
     offered_is = rw (name_is_lem, new_wire) refl
 
     -- the table has it as the waiting key
-    adopted_now : adopted_of (renewed_keys p.keys x.time new) ≡ some (revoked_key a x.time)
+    adopted_now : adopted_of (renewed_keys p.keys x.time new) ≡ Some (revoked_key a x.time)
     unfolding renewed_keys
     adopted_now = go p.keys row.adopted
       where
-        go : (ks : Keys) → adopted_of ks ≡ some a → adopted_of (renewed_keys ks x.time new) ≡ some (revoked_key a x.time)
-        go Empty f = absurd (none-ne-some a f)
-        go (Adopted y) f = ap {B = Option Key} (λ (y : Key). some (revoked_key y x.time)) (some-injective y a f)
-        go (Renewing y z) f = ap {B = Option Key} (λ (y : Key). some (revoked_key y x.time)) (some-injective y a f)
+        go : (ks : Keys) → adopted_of ks ≡ Some a → adopted_of (renewed_keys ks x.time new) ≡ Some (revoked_key a x.time)
+        go Empty f = absurd (none-some a f)
+        go (Adopted y) f = ap {B = Option Key} (λ (y : Key). Some (revoked_key y x.time)) (same_Some y a f)
+        go (Renewing y z) f = ap {B = Option Key} (λ (y : Key). Some (revoked_key y x.time)) (same_Some y a f)
 
-    waiting_now : waiting_of (renewed_keys p.keys x.time new) ≡ some new
+    waiting_now : waiting_of (renewed_keys p.keys x.time new) ≡ Some new
     unfolding renewed_keys
     waiting_now = go p.keys row.adopted
       where
-        go : (ks : Keys) → adopted_of ks ≡ some a → waiting_of (renewed_keys ks x.time new) ≡ some new
-        go Empty f = absurd (none-ne-some a f)
+        go : (ks : Keys) → adopted_of ks ≡ Some a → waiting_of (renewed_keys ks x.time new) ≡ Some new
+        go Empty f = absurd (none-some a f)
         go (Adopted y) f = refl
         go (Renewing y z) f = refl
 
@@ -228,7 +228,7 @@ module _ (b : Sides) (i : ℕ) (e : Agree i b) (x : Turn) (asked : List ℕ) (g 
 
   -- ── The whole ─────────────────────────────────────────────────────────────────────────────────────────────────────
 
-  by_mode : (a' : Key) → signer_of (holder_at t i) (stamped_by (name_of k) (stamp_for scene x.stamp 0)) ≡ some a'
+  by_mode : (a' : Key) → signer_of (holder_at t i) (stamped_by (name_of k) (stamp_for scene x.stamp 0)) ≡ Some a'
       → Fine scene (renewal_of (held_suffix (holder_at t i)) (held_pair (holder_at t i)) a' (given_in x) (key_of (keyed lent key)) (tkey_in q) ServerAssignment)
   unfolding renewal_of offer_serves can_renew bad_key form_err bad_alg bad_time serv_fail held_suffix held_pair holder_at
   by_mode a' _ =
@@ -238,7 +238,7 @@ module _ (b : Sides) (i : ℕ) (e : Agree i b) (x : Turn) (asked : List ℕ) (g 
       by_check (Fine scene) Failed _ (failed scene e _ (λ z. omega arith)) (can_renew p ServerAssignment x.offer) λ can.
       subst (λ (g : Algorithm). Fine scene (Renews ServerAssignment g)) (same_known (sym (named_back g) ∙ is)) (renews (ltb-true _ _ (left (ltb p.next_serial 0x1_0000_0000) (not (eqb (length x.offer) 0)) can)))
     where
-      same_known : {a b : Algorithm} → Known a ≡ Known b → a ≡ b
+      same_known : {a b : Algorithm} → Some a ≡ Some b → a ≡ b
       same_known e = cc
 
   posed : Posed b i x
@@ -318,8 +318,8 @@ module _ (b : Sides) (i : ℕ) (e : Agree i b) (x : Turn) (asked : List ℕ) (g 
           agrees = rw sides at agrees;
         })
 
-  pub grants_both : (a : Key) → adopted_of (pair_at b.table i).keys ≡ some a → (pair_at b.table i).next_serial < 2 ^ 32 → good_times inception expiration ≡ true → 0 < length x.offer → InTime a x → Room b x
+  pub grants_both : (a : Key) → adopted_of (pair_at b.table i).keys ≡ Some a → (pair_at b.table i).next_serial < 2 ^ 32 → good_times inception expiration ≡ true → 0 < length x.offer → InTime a x → Room b x
       → Granted i b (exchanged b x) g a
   grants_both a' is spare interval some-offer ready room =
-      let same : a ≡ a' = some-injective a a' (sym row.adopted ∙ is) in
+      let same : a ≡ a' = same_Some a a' (sym row.adopted ∙ is) in
       subst (Granted i b (exchanged b x) g) same (granted_both spare interval some-offer (subst (λ (k : Key). InTime k x) (sym same) ready) room)

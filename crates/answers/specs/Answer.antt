@@ -1,6 +1,5 @@
 -- What the reader of a reply's TKEY says, against the crate model's answerOf. Assumes nothing.
-use Rattle.std.specs.Prelude.{ℕ, ◌+◌, ◌≤◌, ◌<◌, ◌≡◌, List, take}
-use Rattle.std.proofs.Math.Option.{Option, none, some}
+use Rattle.std.specs.Prelude.{ℕ, ◌+◌, ◌≤◌, ◌<◌, ◌≡◌, List, take, Option, None, Some}
 use Rattle.model.specs.Octets.{u16_at, u32_at}
 use Rattle.model.specs.Messages.{record_at}
 use Rattle.model.specs.Resolver.{TkeyAnswer, answer_in}
@@ -9,7 +8,6 @@ use Rattle.records.specs.Record.{Within, cut}
 use Rattle.messages.specs.Scan.{key_by, key_at}
 use Rattle.answers.specs.declared.AnswerFields.{AnswerFields}
 use Rattle.answers.specs.declared.AnswerFound.{AnswerFound}
-use Rattle.answers.specs.declared.AnswerFound.TheVariants.{Nothing, One}
 
 -- The fields of the data d, which stands in the message from `start` on.
 abbrev pub fields_at : List ℕ → ℕ → ℕ → AnswerFields
@@ -48,20 +46,20 @@ pub record Fits (m : List ℕ) (t : AnswerFields) : Type 0 where
   pub error : t.error < 65536
 
 -- The TKEY that the answer says the message m has, where `owner` holds its owner name.
-abbrev pub shown : List ℕ → List ℕ → AnswerFound → Option TkeyAnswer
-shown m owner Nothing = none
-shown m owner (One name t) = some (answer_from m (take name owner) t)
+abbrev pub shown : List ℕ → List ℕ → Option AnswerFound → Option TkeyAnswer
+shown m owner None = None
+shown m owner (Some f) = Some (answer_from m (take f.name owner) f.fields)
 
-abbrev pub FoundFits : List ℕ → AnswerFound → Type 0
-FoundFits m Nothing = Unit {0}
-FoundFits m (One name t) = (name ≤ 255) × Fits m t
+abbrev pub FoundFits : List ℕ → Option AnswerFound → Type 0
+FoundFits m None = Unit {0}
+FoundFits m (Some f) = (f.name ≤ 255) × Fits m f.fields
 
 -- The answer is what the record at a place says as a TKEY, in whatever section it stands.
-pub record RecordRead (m : List ℕ) (place : ℕ) (owner : List ℕ) (f : AnswerFound) : Type 0 where
+pub record RecordRead (m : List ℕ) (place : ℕ) (owner : List ℕ) (f : Option AnswerFound) : Type 0 where
   pub says : (section : ℕ) → answer_in (key_by (record_at m section place)) ≡ shown m owner f
   pub fits : FoundFits m f
 
 -- The answer is the TKEY that was kept.
-pub record AnswerRead (m : List ℕ) (kept : Kept) (owner : List ℕ) (f : AnswerFound) : Type 0 where
+pub record AnswerRead (m : List ℕ) (kept : Kept) (owner : List ℕ) (f : Option AnswerFound) : Type 0 where
   pub says : answer_in (key_at m kept) ≡ shown m owner f
   pub fits : FoundFits m f

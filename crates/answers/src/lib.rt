@@ -19,11 +19,11 @@ pub struct AnswerFields {
     pub error: usize,
 }
 
-// The only TKEY of the answer section: there is none, or it is ill formed; or its owner name has `name` octets in the lent array.
+// The only TKEY of the answer section, well formed: its owner name has `name` octets in the lent array.
 #[derive(Clone, Copy)]
-pub enum AnswerFound {
-    Nothing,
-    One { name: usize, fields: AnswerFields },
+pub struct AnswerFound {
+    pub name: usize,
+    pub fields: AnswerFields,
 }
 
 // The fields of the TKEY data d, which stands in the message from `start` on; its algorithm's name ends at `next`.
@@ -44,29 +44,33 @@ fn fields_of(d: &[u8], start: usize, next: usize) -> AnswerFields
 }
 
 // The TKEY that the record at `place` holds, its owner name written out into `owner`.
-fn answer_at(m: &[u8], owner: &mut [u8; 255], place: usize) -> AnswerFound
+fn answer_at(m: &[u8], owner: &mut [u8; 255], place: usize) -> Option<AnswerFound>
     ensures { RecordRead m.now place owner.new result }
 {
     match records::expand_record(m, owner, place) {
-        Found::Bad(_) => AnswerFound::Nothing,
-        Found::At {
-            len: name,
-            kind: _,
-            class: _,
-            ttl: _,
-            content,
-        } => {
+        Err(_) => None,
+        Ok(
+            Found {
+                len: name,
+                kind: _,
+                class: _,
+                ttl: _,
+                content,
+            },
+        ) => {
             let start = content.from;
             let d = records::part_of(m, content);
             match tkey::layout_of(d) {
-                Layout::Ill => AnswerFound::Nothing,
-                Layout::Fields {
-                    next,
-                    count: _,
-                    size: _,
-                } => {
+                None => None,
+                Some(
+                    Layout {
+                        next,
+                        count: _,
+                        size: _,
+                    },
+                ) => {
                     let fields = fields_of(d, start, next);
-                    AnswerFound::One { name, fields }
+                    Some(AnswerFound { name, fields })
                 }
             }
         }
@@ -74,12 +78,12 @@ fn answer_at(m: &[u8], owner: &mut [u8; 255], place: usize) -> AnswerFound
 }
 
 // The only TKEY of the answer section, by what a pass kept of such records. Its owner name is written out into `owner`.
-pub fn answer_by(m: &[u8], owner: &mut [u8; 255], kept: Kept) -> AnswerFound
+pub fn answer_by(m: &[u8], owner: &mut [u8; 255], kept: Kept) -> Option<AnswerFound>
     ensures { AnswerRead m.now kept owner.new result }
 {
     match kept {
-        Kept::Never => AnswerFound::Nothing,
+        Kept::Never => None,
         Kept::Once { section: _, place } => answer_at(m, owner, place),
-        Kept::More => AnswerFound::Nothing,
+        Kept::More => None,
     }
 }

@@ -1,58 +1,51 @@
 -- What the reader of a request says, against the crate model's asks_of. Assumes nothing.
-use Rattle.std.specs.Prelude.{ℕ, ◌≡◌, Bool, true, false, List}
-use Rattle.std.proofs.Math.Option.{Option, none, some}
+use Rattle.std.specs.Prelude.{ℕ, ◌≡◌, List, Option, None, Some, Result, Ok, Err, option_map}
 use Rattle.model.specs.declared.Span.{Span}
-use Rattle.model.specs.Inquiries.{Asks, content_of}
+use Rattle.model.specs.Inquiries.{Asks, content_of, unasked_at}
 use Rattle.records.specs.Record.{Within, cut}
 use Rattle.tkey.specs.declared.OnlyKey.{OnlyKey}
 use Rattle.tkey.specs.Key.{key_shown}
-use Rattle.asking.specs.declared.KeyData.{KeyData}
+use Rattle.contents.specs.declared.Unread.TheVariants.{Size, Broken}
 use Rattle.asking.specs.declared.Asked.{Asked}
+use Rattle.asking.specs.declared.Unasked.{Unasked}
+use Rattle.asking.specs.declared.Unasked.TheVariants.{Unread, NotQuery}
 
--- The data of a KEY record that a span of the message m names, if there is one.
-abbrev pub data_shown : List ℕ → Bool → Span → Option (List ℕ)
-data_shown m true p = some (cut m p)
-data_shown m false p = none
+-- What a refusal says: its number, and the place beside FORMAT.
+abbrev pub refused_as : Unasked → Asks
+refused_as (Unread Size) = unasked_at 4 0
+refused_as (Unread (Broken place)) = unasked_at 6 place
+refused_as NotQuery = unasked_at 7 0
 
 -- What the answer says the message m asks for.
-abbrev pub asked_shown : List ℕ → Asked → Asks
-asked_shown m a =
+abbrev pub asked_shown : List ℕ → Result Asked Unasked → Asks
+asked_shown m (Ok a) =
     record {
-      number = a.number;
-      place = a.place;
+      number = 0;
+      place = 0;
       mode = a.mode;
       algorithm = a.algorithm;
       inception = a.inception;
       expiration = a.expiration;
       key = cut m a.key;
-      second = data_shown m a.keyed a.second;
+      second = option_map (cut m) a.second;
     }
+asked_shown m (Err e) = refused_as e
+
+-- The parts of the message m that it names lie there.
+abbrev pub SpanIn : List ℕ → Option Span → Type 0
+SpanIn m None = Unit {0}
+SpanIn m (Some p) = Within m p
+
+abbrev pub PartsIn : List ℕ → Result Asked Unasked → Type 0
+PartsIn m (Ok a) = Within m a.key × SpanIn m a.second
+PartsIn m (Err e) = Unit {0}
 
 -- The KEY that a message has, as its data.
-pub record DataRead (m : List ℕ) (k : OnlyKey) (d : KeyData) : Type 0 where
-  pub says : content_of (key_shown m k) ≡ data_shown m d.keyed d.content
-  pub within : Within m d.content
-  pub unkeyed : d.keyed ≡ false → d.content ≡ record { from = 0; size = 0 }
+pub record DataRead (m : List ℕ) (k : Option OnlyKey) (d : Option Span) : Type 0 where
+  pub says : content_of (key_shown m k) ≡ option_map (cut m) d
+  pub within : SpanIn m d
 
--- The answer of a refusal.
-abbrev pub idle : ℕ → ℕ → Asked
-idle number place =
-    record {
-      number = number;
-      place = place;
-      mode = 0;
-      algorithm = 0;
-      inception = 0;
-      expiration = 0;
-      key = record { from = 0; size = 0 };
-      keyed = false;
-      second = record { from = 0; size = 0 };
-    }
-
--- The answer is this, and its parts lie in the message. A KEY that there is not is told as no octets from 0, and so is every part of a refusal.
-pub record Shows (m : List ℕ) (asks : Asks) (a : Asked) : Type 0 where
+-- The answer is this, and its parts lie in the message.
+pub record Shows (m : List ℕ) (asks : Asks) (a : Result Asked Unasked) : Type 0 where
   pub says : asks ≡ asked_shown m a
-  pub key : Within m a.key
-  pub second : Within m a.second
-  pub unkeyed : a.keyed ≡ false → a.second ≡ record { from = 0; size = 0 }
-  pub refused : (a.number ≡ 0 → ⊥) → a ≡ idle a.number a.place
+  pub within : PartsIn m a

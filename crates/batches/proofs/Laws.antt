@@ -2,7 +2,7 @@
 use Prim.Native.Nat.{ℕ, zero, suc, ◌+◌, ◌-◌, ◌*◌, ◌≤◌, ◌<◌}
 use mathlib.Core.Path.{◌≡◌, refl, sym, ap, ap₂, subst, ◌∙◌}
 use mathlib.Core.Logic.{inl}
-use mathlib.Core.Option.{Option, none, some}
+use Rattle.std.specs.Prelude.{Option, None, Some}
 use mathlib.Core.Bool.{Bool, true, false, ◌&&◌}
 use mathlib.Core.List.{List, [], ◌∷◌, ◌++◌, append_assoc, append-nil}
 use native.Mathlib.Nat.{sub-zero}
@@ -241,17 +241,17 @@ of_item octets w s items (suc n) k (suc i) j h o =
     rw e at (of_item octets w s items n (k + 1) i j (omega arith) o.1)
 
 low_outside : (w : List ℕ) (o : Option ℕ) (j : ℕ) → j < 69 → Outside w o j
-low_outside w none j h = tt
-low_outside w (some row) j h = inl (omega arith)
+low_outside w None j h = tt
+low_outside w (Some row) j h = inl (omega arith)
 
 low_none : (octets w s : List ℕ) (xs : List BatchItem) (j : ℕ) → j < 69 → OfNone octets w s xs j
 low_none octets w s [] j h = tt
 low_none octets w s (x ∷ xs) j h = (low_outside w (item_owner octets w s x) j h, low_none octets w s xs j h)
 
 -- the words of one call's own row, where rows lie as they did
-own_kept : (o : Option ℕ) (w₀ w w' : List ℕ) → ((row : ℕ) → o ≡ some row → place_of w row ≡ place_of w₀ row) → OwnOf o w w' → (j : ℕ) → 0 < j → Outside w₀ o j → get_or w' j 0 ≡ get_or w j 0
-own_kept none w₀ w w' p k j h o = after_clock w' w k j h
-own_kept (some row) w₀ w w' p k j h o = k.kept j h (rw (p row refl) o)
+own_kept : (o : Option ℕ) (w₀ w w' : List ℕ) → ((row : ℕ) → o ≡ Some row → place_of w row ≡ place_of w₀ row) → OwnOf o w w' → (j : ℕ) → 0 < j → Outside w₀ o j → get_or w' j 0 ≡ get_or w j 0
+own_kept None w₀ w w' p k j h o = after_clock w' w k j h
+own_kept (Some row) w₀ w w' p k j h o = k.kept j h (rw (p row refl) o)
 
 module _
     {octets s w₀ items : List ℕ} {n : ℕ} {a₀ b₀ w a b : List ℕ} {used i : ℕ}
@@ -288,7 +288,7 @@ module _
     same_owner = ap (λ (ns : List (List ℕ)). octets_owner ns (part octets x.message.from x.message.size)) turn.names
 
     -- a row's place is a word before the first pair
-    same_place : (row : ℕ) → item_owner octets w s x ≡ some row → place_of w row ≡ place_of w₀ row
+    same_place : (row : ℕ) → item_owner octets w s x ≡ Some row → place_of w row ≡ place_of w₀ row
     same_place row e =
         let few : row < 64 = row_few w s (rules_layout w s turn.rules) row (row_in w s _ row e) in
         turn.kept (3 + row) (omega arith) (low_none octets w₀ s (items_in items n) (3 + row) (omega arith))

@@ -1,6 +1,5 @@
 -- A batch on a lent table, its items and its answers in words, against the crate model's Batches. Assumes nothing.
-use Rattle.std.specs.Prelude.{ℕ, zero, suc, ◌+◌, ◌*◌, ◌≤◌, ◌<◌, List, [], ◌∷◌, ◌++◌, ◌⊎◌, ◌≡◌, eqb, length, get_or}
-use Rattle.std.proofs.Math.Option.{Option, none, some}
+use Rattle.std.specs.Prelude.{ℕ, zero, suc, ◌+◌, ◌*◌, ◌≤◌, ◌<◌, List, [], ◌∷◌, ◌++◌, ◌⊎◌, ◌≡◌, eqb, length, get_or, Option, None, Some}
 use Rattle.model.specs.declared.Answer.{Answer}
 use Rattle.model.specs.declared.BatchItem.{BatchItem}
 use Rattle.model.specs.Octets.{part, put}
@@ -49,8 +48,8 @@ item_owner octets w s x = octets_owner (names_of (table_of w s)) (part octets x.
 
 -- The word i is none of the pair in this row; none of a pair that one of these items belongs to.
 abbrev pub Outside : List ℕ → Option ℕ → ℕ → Type 0
-Outside w none i = Unit {0}
-Outside w (some row) i = (i < pair_start (place_of w row)) ⊎ (pair_start (place_of w row) + 14 ≤ i)
+Outside w None i = Unit {0}
+Outside w (Some row) i = (i < pair_start (place_of w row)) ⊎ (pair_start (place_of w row) + 14 ≤ i)
 
 abbrev pub OfNone : List ℕ → List ℕ → List ℕ → List BatchItem → ℕ → Type 0
 OfNone octets w s [] i = Unit {0}

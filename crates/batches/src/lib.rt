@@ -59,19 +59,13 @@ fn answer_into(answers: &mut [u64], at: usize, a: Answer)
 fn is_inside(s: Span, n: usize) -> bool
     ensures { result ≡ leb (s.from + s.size) n }
 {
-    if n < s.size {
-        return false;
-    }
-    s.from <= n - s.size
+    s.size <= n && s.from <= n - s.size
 }
 
 fn is_item_inside(x: BatchItem, n: usize) -> bool
     ensures { result ≡ ((leb (x.message.from + x.message.size) n && leb (x.offer.from + x.offer.size) n) && leb (x.second.from + x.second.size) n) }
 {
-    let m = x.message;
-    let o = x.offer;
-    let s = x.second;
-    is_inside(m, n) & is_inside(o, n) & is_inside(s, n)
+    is_inside(x.message, n) & is_inside(x.offer, n) & is_inside(x.second, n)
 }
 
 // Whether the messages, the offers and the lent records of all items lie in n octets.
@@ -79,13 +73,10 @@ fn items_inside(items: &[u64], count: usize, n: usize) -> bool
     requires { (length items.now ≡ 576) × (count ≤ 64) }
     ensures { (octets : List ℕ) → length octets ≡ n → result ≡ items_inside octets (items_in items.now count) }
 {
-    let mut i: usize = 0;
-    while i < count {
-        let x = item_at(items, i);
-        if !is_item_inside(x, n) {
+    for i in 0..count {
+        if !is_item_inside(item_at(items, i), n) {
             return false;
         }
-        i += 1;
     }
     true
 }
@@ -114,12 +105,9 @@ fn serve_item(
     ensures { ItemShows (called (table_of words.old suffixes.now) (item_call octets.now (length reply.old) x))
         (item_owner octets.now words.old suffixes.now x) words.old suffixes.now words.new reply.old reply.new result }
 {
-    let m = x.message;
-    let o = x.offer;
-    let s = x.second;
-    let message = records::part_of(octets, m);
-    let offer = records::part_of(octets, o);
-    let second = records::part_of(octets, s);
+    let message = records::part_of(octets, x.message);
+    let offer = records::part_of(octets, x.offer);
+    let second = records::part_of(octets, x.second);
     let verdicts = Verdicts {
         now: x.time,
         good: x.good,
@@ -159,13 +147,11 @@ fn in_turn(
         words.old suffixes.now words.new answers.old answers.new replies.old replies.new }
 {
     let mut used: usize = 0;
-    let mut i: usize = 0;
-    while i < count {
+    for i in 0..count {
         let x = item_at(items, i);
         let a = serve_behind(words, suffixes, x, octets, replies, used);
         answer_into(answers, i * 7, a);
         used += a.length as usize;
-        i += 1;
     }
 }
 

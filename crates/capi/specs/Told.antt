@@ -1,6 +1,5 @@
 -- What a call for C leaves: the words of its answer, the number that it returns, and the lent table. Assumes nothing.
-use Rattle.std.specs.Prelude.{ℕ, List, Bool, ◌≡◌, drop}
-use Rattle.std.proofs.Math.Option.{Option}
+use Rattle.std.specs.Prelude.{ℕ, List, Bool, ◌≡◌, drop, Option}
 use Rattle.model.specs.declared.Answer.{Answer}
 use Rattle.model.specs.Tables.{Table}
 use Rattle.model.specs.Judging.{Given}

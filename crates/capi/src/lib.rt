@@ -14,11 +14,12 @@ ghost use Rattle.outcomes.specs.Ends.{Own};
 ghost use Rattle.asking.specs.Asking.{Shows};
 ghost use Rattle.inquiries.specs.Inquired.{PairTold};
 ghost use Rattle.capi.specs.Told.{handed, Told, Lent, NewLent, MessageLent};
-ghost use Rattle.capi.specs.Inquired.{FoundTold, SpeltTold, moves_words, keyed_word, AsksTold};
+ghost use Rattle.capi.specs.Inquired.{FoundTold, SpeltTold, moves_words, second_words, asked_words, unasked_words, AsksTold};
 
-use asking::Asked;
+use asking::{Asked, Unasked};
+use contents::Unread;
 use inquiries::Spelling;
-use model::{Answer, FoundPair, Verdicts};
+use model::{Answer, FoundPair, Span, Verdicts};
 
 // ── Answers ─────────────────────────────────────────────────────────────────────────────────────────────────────────
 
@@ -289,31 +290,62 @@ pub extern "C" fn luffcringle_moves(before: &[u64; 14], after: &[u64; 14], moves
     *moves = [m.made, m.adopted, m.ended, m.dropped];
 }
 
-fn keyed_word(keyed: bool) -> u64
-    ensures { result ≡ keyed_word keyed }
+// The KEY record's data in three words: 1, place and size, or three zeros where there is none.
+fn second_words(second: Option<Span>) -> [u64; 3]
+    ensures { result ≡ second_words second }
 {
-    if keyed { 1 } else { 0 }
+    match second {
+        Some(p) => [1, p.from as u64, p.size as u64],
+        None => [0, 0, 0],
+    }
 }
 
-fn tell_asks(asked: &mut [u64; 10], a: Asked) -> u64
-    ensures { (m : List ℕ) (asks : Asks) → Shows m asks a → AsksTold m asks asked.new result }
+// A refusal in two words: its number, and the place where reading failed.
+fn unasked_words(unasked: Unasked) -> [u64; 2]
+    ensures { result ≡ unasked_words unasked }
+{
+    match unasked {
+        Unasked::Unread(unread) => match unread {
+            Unread::Size => [4, 0],
+            Unread::Broken { place } => [6, place as u64],
+        },
+        Unasked::NotQuery => [7, 0],
+    }
+}
+
+fn tell_asked(asked: &mut [u64; 10], a: Asked)
+    ensures { asked.new ≡ asked_words a (second_words a.second) }
 {
     let key = a.key;
-    let second = a.second;
-    let keyed = keyed_word(a.keyed);
+    let second = second_words(a.second);
     *asked = [
-        a.place,
+        0,
         a.mode,
         a.algorithm,
         a.inception,
         a.expiration,
         key.from as u64,
         key.size as u64,
-        keyed,
-        second.from as u64,
-        second.size as u64,
+        second[0],
+        second[1],
+        second[2],
     ];
-    a.number
+}
+
+fn tell_asks(asked: &mut [u64; 10], asks: Result<Asked, Unasked>) -> u64
+    ensures { (m : List ℕ) (a : Asks) → Shows m a asks → AsksTold m a asked.new result }
+{
+    match asks {
+        Ok(a) => {
+            tell_asked(asked, a);
+            0
+        }
+        Err(unasked) => {
+            let told = unasked_words(unasked);
+            *asked = [told[1], 0, 0, 0, 0, 0, 0, 0, 0, 0];
+            told[0]
+        }
+    }
 }
 
 // What a message asks for, signed or not, in ten words: the place where reading failed, beside FORMAT; the TKEY's mode (0 where nothing is asked), algorithm (256, 384,

@@ -11,8 +11,9 @@ use Rattle.model.specs.Loading as model
 use Rattle.model.specs.Loading.{list_in, list_number, Loaded, load, load_number, load_line, Mended, mend, mend_in, mended_in, mend_number, mend_line}
 use Rattle.store.specs.Layout.{table_of}
 use Rattle.octets.proofs.Laws.{wrote_put}
-use Rattle.listing.specs.declared.Listed.{Listed}
-use Rattle.listing.specs.declared.Listed.TheVariants.{Text, Broken, Long}
+use Rattle.std.specs.Prelude.{Result, Ok, Err}
+use Rattle.listing.specs.declared.ListError.{ListError}
+use Rattle.listing.specs.declared.ListError.TheVariants.{Broken, Long}
 use Rattle.listing.specs.Listed.{shown, Left, Lists}
 use Rattle.loading.specs.declared.Ended.{Ended}
 use Rattle.loading.specs.declared.Mending.{Mending}
@@ -21,18 +22,18 @@ use Rattle.loading.specs.Loads.{load_into, table_after, Loads, mend_into, table_
 use Rattle.loading.proofs.Ends.{lends_both}
 use Rattle.capi_listing.specs.Told.{listed_number, listed_size, text_of, ListedTold, EndTold, MendingTold, ListLent, LoadLent, MendLent}
 
-pub list_lent : {t : Table} {text text' told : List ℕ} {l : Listed} {r : ℕ} → Lists t text text' l → ListedTold l told r → ListLent t text text' told r
+pub list_lent : {t : Table} {text text' told : List ℕ} {l : Result ℕ ListError} {r : ℕ} → Lists t text text' l → ListedTold l told r → ListLent t text text' told r
 unfolding list_number put DONE TABLE ROOM
 list_lent {t} {text} {text'} {told} {l} {r} v e = go l v.says v.left e.written e.returned
   where
-    go : (l : Listed) → list_in (length text) t ≡ shown t l → Left t text text' l → told ≡ listed_size l ∷ [] → r ≡ listed_number l → ListLent t text text' told r
-    go (Text n) s x w n-is = record {
+    go : (l : Result ℕ ListError) → list_in (length text) t ≡ shown t l → Left t text text' l → told ≡ listed_size l ∷ [] → r ≡ listed_number l → ListLent t text text' told r
+    go (Ok n) s x w n-is = record {
       returned = n-is ∙ ap list_number (sym s);
       written = w ∙ ap (λ (n : ℕ). n ∷ []) (wrote_put x).0 ∙ ap (λ (m : model.Listed). length (text_of m) ∷ []) (sym s);
       text_is = (wrote_put x).1 ∙ ap (λ (m : model.Listed). put (text_of m) text) (sym s);
     }
-    go Broken s x w n-is = record { returned = n-is ∙ ap list_number (sym s); written = w ∙ ap (λ (m : model.Listed). length (text_of m) ∷ []) (sym s); text_is = x ∙ ap (λ (m : model.Listed). put (text_of m) text) (sym s) }
-    go Long s x w n-is = record { returned = n-is ∙ ap list_number (sym s); written = w ∙ ap (λ (m : model.Listed). length (text_of m) ∷ []) (sym s); text_is = x ∙ ap (λ (m : model.Listed). put (text_of m) text) (sym s) }
+    go (Err Broken) s x w n-is = record { returned = n-is ∙ ap list_number (sym s); written = w ∙ ap (λ (m : model.Listed). length (text_of m) ∷ []) (sym s); text_is = x ∙ ap (λ (m : model.Listed). put (text_of m) text) (sym s) }
+    go (Err Long) s x w n-is = record { returned = n-is ∙ ap list_number (sym s); written = w ∙ ap (λ (m : model.Listed). length (text_of m) ∷ []) (sym s); text_is = x ∙ ap (λ (m : model.Listed). put (text_of m) text) (sym s) }
 
 pub load_lent :
     {text w s w' s' line : List ℕ} {e : Ended} {r : ℕ} → length w ≡ 1091 → length s ≡ 8192

@@ -1,35 +1,37 @@
 -- What listing, loading and mending leave for C: their words, the number that is returned, and what is lent. Assumes nothing.
-use Rattle.std.specs.Prelude.{ℕ, ◌/◌, List, [], ◌∷◌, ◌≡◌, length}
+use Rattle.std.specs.Prelude.{ℕ, ◌/◌, List, [], ◌∷◌, ◌≡◌, length, Result, Ok, Err}
 use Rattle.model.specs.Octets.{put}
 use Rattle.model.specs.Tables.{Table}
 use Rattle.model.specs.Calls.{DONE, TABLE, ROOM}
 use Rattle.model.specs.Loading as model
 use Rattle.model.specs.Loading.{list_in, list_number, load, load_number, load_line, mend_in, mend_number, mend_line}
 use Rattle.store.specs.Layout.{table_of}
-use Rattle.listing.specs.declared.Listed.{Listed}
-use Rattle.listing.specs.declared.Listed.TheVariants.{Text, Broken, Long}
+use Rattle.listing.specs.declared.ListError.{ListError}
+use Rattle.listing.specs.declared.ListError.TheVariants.{Broken, Long}
 use Rattle.loading.specs.declared.Ended.{Ended}
 use Rattle.loading.specs.declared.Mending.{Mending}
 use Rattle.loading.specs.Walk.{named_words}
 use Rattle.loading.specs.Loads.{table_after, table_mended, dropped_by}
 
--- The number and the count of octets that each answer of the listing stands for.
-abbrev pub listed_number : Listed → ℕ
-listed_number (Text n) = DONE
-listed_number Broken = TABLE
-listed_number Long = ROOM
+-- The number of a refusal, and the number and the count of octets that each answer of the listing stands for.
+abbrev pub refusal_number : ListError → ℕ
+refusal_number Broken = TABLE
+refusal_number Long = ROOM
 
-abbrev pub listed_size : Listed → ℕ
-listed_size (Text n) = n
-listed_size Broken = 0
-listed_size Long = 0
+abbrev pub listed_number : Result ℕ ListError → ℕ
+listed_number (Ok n) = DONE
+listed_number (Err e) = refusal_number e
+
+abbrev pub listed_size : Result ℕ ListError → ℕ
+listed_size (Ok n) = n
+listed_size (Err e) = 0
 
 abbrev pub text_of : model.Listed → List ℕ
 text_of model.bad_table = []
 text_of model.too_long = []
 text_of (model.lists text) = text
 
-pub record ListedTold (l : Listed) (told : List ℕ) (r : ℕ) : Type 0 where
+pub record ListedTold (l : Result ℕ ListError) (told : List ℕ) (r : ℕ) : Type 0 where
   pub written : told ≡ listed_size l ∷ []
   pub returned : r ≡ listed_number l
 

@@ -3,26 +3,33 @@
 #![tactic(auto)]
 
 ghost use Rattle.store.specs.Layout.{table_of};
-ghost use Rattle.capi_listing.specs.Told.{ListedTold, EndTold, MendingTold, ListLent, LoadLent, MendLent};
+ghost use Rattle.std.specs.Prelude.{◌≡◌};
+ghost use Rattle.capi_listing.specs.Told.{refusal_number, ListedTold, EndTold, MendingTold, ListLent, LoadLent, MendLent};
 
-use listing::Listed;
+use listing::ListError;
 use loading::{Ended, Mending};
 
-fn tell_listed(length: &mut [u64; 1], l: Listed) -> u64
+// A refusal's number.
+fn refusal_number(e: ListError) -> u64
+    ensures { result ≡ refusal_number e }
+{
+    match e {
+        ListError::Broken => 1,
+        ListError::Long => 8,
+    }
+}
+
+fn tell_listed(length: &mut [u64; 1], l: Result<usize, ListError>) -> u64
     ensures { ListedTold l length.new result }
 {
     match l {
-        Listed::Text(n) => {
+        Ok(n) => {
             *length = [n as u64];
             0
         }
-        Listed::Broken => {
+        Err(e) => {
             *length = [0];
-            1
-        }
-        Listed::Long => {
-            *length = [0];
-            8
+            refusal_number(e)
         }
     }
 }
@@ -37,7 +44,7 @@ pub extern "C" fn luffcringle_list(
 ) -> u64
     ensures { ListLent (table_of words.now suffixes.now) text.old text.new length.new result }
 {
-    let l = listing::list(&words[..], &suffixes[..], text);
+    let l = listing::list(words, suffixes, text);
     tell_listed(length, l)
 }
 
@@ -59,7 +66,7 @@ pub extern "C" fn luffcringle_load(
 ) -> u64
     ensures { LoadLent text.now words.old suffixes.old words.new suffixes.new line.new result }
 {
-    let e = loading::load(text, &mut words[..], &mut suffixes[..]);
+    let e = loading::load(text, words, suffixes);
     tell_end(line, e)
 }
 
@@ -83,6 +90,6 @@ pub extern "C" fn luffcringle_mend(
 ) -> u64
     ensures { MendLent text.now words.old suffixes.old named.old words.new suffixes.new named.new told.new result }
 {
-    let m = loading::mend(text, &mut words[..], &mut suffixes[..], named);
+    let m = loading::mend(text, words, suffixes, named);
     tell_mending(told, m)
 }

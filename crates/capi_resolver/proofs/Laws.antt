@@ -1,37 +1,33 @@
 -- A refusal is of the state that was there; what a call ends with, stored and told. Assumes nothing.
 use Prim.Native.Nat.{ℕ}
 use mathlib.Core.Bool.{Bool, true, false}
-use mathlib.Core.Option.{Option, none, some}
+use Rattle.model.specs.declared.Span.{Span}
+use Rattle.std.specs.Prelude.{Option, None, Some}
 use mathlib.Core.List.{List, [], ◌∷◌}
 use mathlib.Core.Path.{◌≡◌, refl, sym, ap, ap₂, ◌∙◌}
 use native.Mathlib.Decide.{ℕ_discrete}
 use lib.Dec.{eqb}
 use Rattle.model.specs.declared.Algorithm.{Algorithm}
-use Rattle.model.specs.declared.Named.{Named}
-use Rattle.model.specs.declared.Named.TheVariants.{Known, Unknown}
 use Rattle.model.specs.declared.ResolverKey.{ResolverKey}
 use Rattle.model.specs.declared.Resolver.{Resolver}
 use Rattle.model.specs.declared.SignWith.{SignWith}
 use Rattle.model.specs.declared.Sending.{Sending}
 use Rattle.model.specs.declared.Asking.{Asking}
-use Rattle.model.specs.declared.OpenRequest.{OpenRequest}
-use Rattle.model.specs.declared.OpenRequest.TheVariants.{Nothing as NoRequest, Sent as SentRequest}
 use Rattle.model.specs.declared.Heard.{Heard}
 use Rattle.model.specs.Octets.{put, Reading, stops, reads}
 use Rattle.model.specs.Names.{wire_name, algorithm_numbered}
 use Rattle.model.specs.Messages.{Message, read_message}
 use Rattle.model.specs.Tsig.{Signature, unsigned, misplaced, well_placed, signature}
 use Rattle.model.specs.Tkey.{is_key_record}
-use Rattle.model.specs.Checks.{check, check_read, check_some, check_known}
+use Rattle.model.specs.Checks.{check, check_read, check_some}
 use Rattle.model.specs.Calls.{size_ok, room_for}
 use Rattle.model.specs.Resolver.{LOST, WRONGID, UNSIGNED, FORMAT, NOKEY, ROOM, adopted_key, offered_key, Writing, unwritten, sent, root_or, written_renewal, written_adoption, written_deletion, written_into, unheard, heard, signed_reply, awaited_reply, read_reply}
 use Rattle.model.specs.Granted.{key_named, starting_with, Hold, unheld, held, numbered_renewal, granted_data}
 use Rattle.resolver_state.specs.State.{resolver_of, Stored}
 use Rattle.resolver_requests.specs.Sent.{Sent}
-use Rattle.granted.specs.declared.KeyData.{KeyData}
-use Rattle.granted.specs.declared.KeyData.TheVariants.{Nothing, At}
 use Rattle.granted.specs.Brought.{DataRead}
 use Rattle.capi_resolver.specs.Lent.{Moved, HoldLent, signer_word, SentLent, due_word, DataTold, HeardLent, heard_words, Kept}
+use Rattle.model.specs.declared.OpenRequest.{OpenRequest}
 
 -- ── Refusals of the writing calls ───────────────────────────────────────────────────────────────────────────────────
 
@@ -48,8 +44,8 @@ module _ (s : Resolver) where
   keeps_check n false x k = keeps_unwritten n
 
   keeps_some : (n : ℕ) (o : Option ResolverKey) (f : ResolverKey → Writing) → ((a : ResolverKey) → Keeps s (f a)) → Keeps s (check_some (unwritten s) n o f)
-  keeps_some n none f k = keeps_unwritten n
-  keeps_some n (some a) f k = k a
+  keeps_some n None f k = keeps_unwritten n
+  keeps_some n (Some a) f k = k a
 
   keeps_sent : (room : ℕ) (octets : List ℕ) (signer : SignWith) (after : Resolver) → Keeps s (sent s room octets signer after)
   unfolding sent
@@ -94,10 +90,10 @@ module _ (s : Resolver) where
     by_signature asking misplaced = keeps_unheard UNSIGNED
     by_signature asking (well_placed t) = by_check UNSIGNED good (heard s asking octets m t) (record { same = λ h. absurd (h refl) })
 
-    by_request : (o : OpenRequest) → KeepsHeard s (awaited_reply s o octets good m)
-    by_request NoRequest = keeps_unheard LOST
-    by_request (SentRequest id asking) =
-        by_check WRONGID (eqb m.id id) (signed_reply s asking octets m good (signature m.records)) (by_signature asking (signature m.records))
+    by_request : (o : Option OpenRequest) → KeepsHeard s (awaited_reply s o octets good m)
+    by_request None = keeps_unheard LOST
+    by_request (Some q) =
+        by_check WRONGID (eqb m.id q.id) (signed_reply s q.asking octets m good (signature m.records)) (by_signature q.asking (signature m.records))
 
   by_read : (n : ℕ) (x : Reading Message) (f : Message → Heard) → ((m : Message) → KeepsHeard s (f m)) → KeepsHeard s (check_read (unheard s) n x f)
   by_read n (stops place) f k = keeps_unheard n
@@ -145,12 +141,12 @@ module _ (call : Resolver → Writing) (keeps : (s : Resolver) → Keeps s (call
 
 -- ── What the reading call tells ─────────────────────────────────────────────────────────────────────────────────────
 
-tells : (m : List ℕ) (due : Bool) (x : Option (List ℕ)) (f : KeyData) (told : List ℕ) → DataRead x m f → told ≡ heard_words due f
+tells : (m : List ℕ) (due : Bool) (x : Option (List ℕ)) (f : Option Span) (told : List ℕ) → DataRead x m f → told ≡ heard_words due f
     → DataTold m (due_word due) x told
-tells m due x Nothing told r e = rw r.says e
-tells m due x (At p) told r e = rw r.says (p.from, p.size, e, r.fits, refl)
+tells m due x None told r e = rw r.says e
+tells m due x (Some p) told r e = rw r.says (p.from, p.size, e, r.fits, refl)
 
-pub hears : (m : List ℕ) (good : Bool) {w n w' n' t : List ℕ} {s : Resolver} {q : Heard} {f : KeyData} {r : ℕ} → s ≡ resolver_of w n
+pub hears : (m : List ℕ) (good : Bool) {w n w' n' t : List ℕ} {s : Resolver} {q : Heard} {f : Option Span} {r : ℕ} → s ≡ resolver_of w n
     → DataRead (granted_data s good m) m f → q ≡ read_reply s good m → t ≡ heard_words q.due f → Kept q.number q.state w n w' n' r
     → HeardLent (read_reply (resolver_of w n) good m) m (granted_data (resolver_of w n) good m) w n w' n' t r
 hears m good {w} {n} {w'} {n'} {t} {s} {q} {f} {r} e d z o k =
@@ -166,12 +162,12 @@ hears m good {w} {n} {w'} {n'} {t} {s} {q} {f} {r} e d z o k =
 -- ── An algorithm by its number ──────────────────────────────────────────────────────────────────────────────────────
 
 module _ (s : Resolver) (id : ℕ) (name : List ℕ) (algorithm inception expiration : ℕ) (key_record : List ℕ) (room : ℕ) where
-  known_renewal : (g : Algorithm) → algorithm_numbered algorithm ≡ Known g
+  known_renewal : (g : Algorithm) → algorithm_numbered algorithm ≡ Some g
       → written_renewal s id name g inception expiration key_record room ≡ numbered_renewal s id name algorithm inception expiration key_record room
   unfolding numbered_renewal
   known_renewal g e = rw e refl
 
-  unknown_renewal : algorithm_numbered algorithm ≡ Unknown → unwritten s NOKEY ≡ numbered_renewal s id name algorithm inception expiration key_record room
+  unknown_renewal : algorithm_numbered algorithm ≡ None → unwritten s NOKEY ≡ numbered_renewal s id name algorithm inception expiration key_record room
   unfolding numbered_renewal
   unknown_renewal e = rw e refl
 
@@ -180,13 +176,13 @@ unfolding unwritten NOKEY written_into put
 unwritten_lent w n b = record { moved = record { state = refl; returned = refl; refused = λ h. (refl, refl) }; told = refl; left = refl }
 
 pub renewal_unknown : (w n : List ℕ) (id : ℕ) (name : List ℕ) (algorithm inception expiration : ℕ) (key_record : List ℕ) (room : ℕ) (b told : List ℕ)
-    → algorithm_numbered algorithm ≡ Unknown → told ≡ 0 ∷ 0 ∷ []
+    → algorithm_numbered algorithm ≡ None → told ≡ 0 ∷ 0 ∷ []
     → SentLent (numbered_renewal (resolver_of w n) id name algorithm inception expiration key_record room) w n w n told b b 6
 renewal_unknown w n id name algorithm inception expiration key_record room b told e t =
     rw (← unknown_renewal (resolver_of w n) id name algorithm inception expiration key_record room e, t) (unwritten_lent w n b)
 
 pub renewal_known : (w n : List ℕ) (id : ℕ) (name : List ℕ) (algorithm inception expiration : ℕ) (key_record : List ℕ) (room : ℕ) (w' n' t b b' : List ℕ) (r : ℕ)
-    (g : Algorithm) → algorithm_numbered algorithm ≡ Known g
+    (g : Algorithm) → algorithm_numbered algorithm ≡ Some g
     → SentLent (written_renewal (resolver_of w n) id name g inception expiration key_record room) w n w' n' t b b' r
     → SentLent (numbered_renewal (resolver_of w n) id name algorithm inception expiration key_record room) w n w' n' t b b' r
 renewal_known w n id name algorithm inception expiration key_record room w' n' t b b' r g e x =
@@ -206,11 +202,11 @@ module _ (w n name : List ℕ) (algorithm inception expiration : ℕ) where
   unfolding held
   no_name e = refused (rw e refl)
 
-  pub no_algorithm : wire_name name ≡ true → algorithm_numbered algorithm ≡ Unknown → HoldLent holds w n w n 6
+  pub no_algorithm : wire_name name ≡ true → algorithm_numbered algorithm ≡ None → HoldLent holds w n w n 6
   unfolding held
   no_algorithm e f = refused (rw (e, f) refl)
 
-  pub holding : wire_name name ≡ true → (g : Algorithm) → algorithm_numbered algorithm ≡ Known g → (w' n' : List ℕ) (k : ResolverKey) (s : Resolver)
+  pub holding : wire_name name ≡ true → (g : Algorithm) → algorithm_numbered algorithm ≡ Some g → (w' n' : List ℕ) (k : ResolverKey) (s : Resolver)
       → k ≡ key_named name g inception expiration → s ≡ starting_with k → Stored s w' n' → HoldLent holds w n w' n' 0
   unfolding held
   holding e g f w' n' k s i j d =

@@ -1,7 +1,7 @@
 -- What a call of the resolver for C leaves: at entry the words w and the octets n show a state, at exit they are w' and n'; the number r is returned. Each
 -- call is the definition's, of the state that was shown. Assumes nothing.
-use Rattle.std.specs.Prelude.{ℕ, ◌+◌, ◌≤◌, Bool, cond, List, [], ◌∷◌, ◌≡◌, length}
-use Rattle.std.proofs.Math.Option.{Option, none, some}
+use Rattle.model.specs.declared.Span.{Span}
+use Rattle.std.specs.Prelude.{ℕ, ◌+◌, ◌≤◌, Bool, cond, List, [], ◌∷◌, ◌≡◌, length, Option, None, Some}
 use Rattle.model.specs.declared.Resolver.{Resolver}
 use Rattle.model.specs.declared.SignWith.{SignWith}
 use Rattle.model.specs.declared.SignWith.TheVariants.{Nobody, AdoptedKey, OfferedKey}
@@ -10,8 +10,6 @@ use Rattle.model.specs.Octets.{part}
 use Rattle.model.specs.Resolver.{Writing, written_into}
 use Rattle.model.specs.Granted.{Hold}
 use Rattle.resolver_state.specs.State.{resolver_of}
-use Rattle.granted.specs.declared.KeyData.{KeyData}
-use Rattle.granted.specs.declared.KeyData.TheVariants.{Nothing, At}
 
 -- The state and the number that a call ends with.
 pub record Moved (number : ℕ) (after : Resolver) (w n w' n' : List ℕ) (r : ℕ) : Type 0 where
@@ -41,8 +39,8 @@ abbrev pub due_word : Bool → ℕ
 due_word due = cond due 1 0
 
 abbrev pub DataTold : List ℕ → ℕ → Option (List ℕ) → List ℕ → Type 0
-DataTold m due none told = told ≡ due ∷ 0 ∷ 0 ∷ 0 ∷ []
-DataTold m due (some d) told = (from : ℕ) × (size : ℕ) × (told ≡ due ∷ 1 ∷ from ∷ size ∷ []) × (from + size ≤ length m) × (part m from size ≡ d)
+DataTold m due None told = told ≡ due ∷ 0 ∷ 0 ∷ 0 ∷ []
+DataTold m due (Some d) told = (from : ℕ) × (size : ℕ) × (told ≡ due ∷ 1 ∷ from ∷ size ∷ []) × (from + size ≤ length m) × (part m from size ≡ d)
 
 pub record HeardLent (h : Heard) (m : List ℕ) (x : Option (List ℕ)) (w n w' n' t : List ℕ) (r : ℕ) : Type 0 where
   pub moved : Moved h.number h.state w n w' n' r
@@ -57,6 +55,6 @@ pub record Kept (number : ℕ) (after : Resolver) (w n w' n' : List ℕ) (r : �
   pub refused : (number ≡ 0 → ⊥) → (w' ≡ w) × (n' ≡ n)
 
 -- What the reading call tells, by where the key data was found.
-abbrev pub heard_words : Bool → KeyData → List ℕ
-heard_words due Nothing = due_word due ∷ 0 ∷ 0 ∷ 0 ∷ []
-heard_words due (At p) = due_word due ∷ 1 ∷ p.from ∷ p.size ∷ []
+abbrev pub heard_words : Bool → Option Span → List ℕ
+heard_words due None = due_word due ∷ 0 ∷ 0 ∷ 0 ∷ []
+heard_words due (Some p) = due_word due ∷ 1 ∷ p.from ∷ p.size ∷ []

@@ -9,8 +9,7 @@ ghost use Rattle.model.specs.Granted.{key_named, starting_with, held, numbered_r
 ghost use Rattle.resolver_state.specs.State.{resolver_of};
 ghost use Rattle.capi_resolver.specs.Lent.{HoldLent, signer_word, SentLent, due_word, heard_words, HeardLent, Kept};
 
-use granted::KeyData;
-use model::{Algorithm, Holding, Named, OpenRequest, Resolver, ResolverKey, SignWith};
+use model::{Algorithm, Holding, Resolver, ResolverKey, SignWith, Span};
 
 // ── A state to start from ───────────────────────────────────────────────────────────────────────────────────────────
 
@@ -36,7 +35,7 @@ fn starting_with(k: ResolverKey) -> Resolver
         holding: Holding::Adopted,
         adopted: k,
         offered: k,
-        awaited: OpenRequest::Nothing,
+        awaited: None,
         offered_signs: false,
     }
 }
@@ -59,8 +58,8 @@ pub extern "C" fn luffcringle_resolver_hold(
         return 6;
     }
     match resolver_state::algorithm_numbered(algorithm) {
-        Named::Unknown => 6,
-        Named::Known(g) => {
+        None => 6,
+        Some(g) => {
             let k = key_named(name, g, inception, expiration);
             resolver_state::store(words, names, starting_with(k));
             0
@@ -146,11 +145,11 @@ pub extern "C" fn luffcringle_resolver_renewal(
         words.old names.old words.new names.new told.new out.old out.new result }
 {
     match resolver_state::algorithm_numbered(algorithm) {
-        Named::Unknown => {
+        None => {
             tell_sent(told, 0, SignWith::Nobody);
             6
         }
-        Named::Known(g) => renewal_of(
+        Some(g) => renewal_of(
             words, names, id, name, g, inception, expiration, key, out, told,
         ),
     }
@@ -215,15 +214,15 @@ fn due_word(due: bool) -> u64
     if due { 1 } else { 0 }
 }
 
-fn tell_heard(told: &mut [u64; 4], due: bool, found: KeyData)
+fn tell_heard(told: &mut [u64; 4], due: bool, found: Option<Span>)
     ensures { told.new ≡ heard_words due found }
 {
     let word = due_word(due);
     match found {
-        KeyData::Nothing => {
+        None => {
             *told = [word, 0, 0, 0];
         }
-        KeyData::At(p) => {
+        Some(p) => {
             *told = [word, 1, p.from as u64, p.size as u64];
         }
     }

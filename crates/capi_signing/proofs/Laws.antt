@@ -2,25 +2,20 @@
 use Prim.Native.Nat.{ℕ}
 use mathlib.Core.Path.{◌≡◌, refl, ap, ◌∙◌}
 use mathlib.Core.List.{List, [], ◌∷◌}
+use Rattle.std.specs.Prelude.{Result}
 use Rattle.model.specs.Signing.{Assembled}
 use Rattle.model.specs.Received.{timers, later_digest, digested_later}
-use Rattle.digests.specs.declared.Assembly.{Assembly}
+use Rattle.digests.specs.declared.Refusal.{Refusal}
 use Rattle.digests.specs.Left.{Left}
-use Rattle.receiving.specs.declared.TsigParts.{TsigParts}
-use Rattle.receiving.specs.Receiving.{TsigTold}
-use Rattle.capi_signing.specs.Written.{stamp, Counted, LeftTo, field_words, ReadTo}
+use Rattle.capi_signing.specs.Written.{stamp, Counted, LeftTo}
 
-pub left_to : {a : Assembled} {entry exit words : List ℕ} {x : Assembly} {r : ℕ} → Left a entry exit x → Counted x words r → LeftTo a entry exit words r
+pub left_to : {a : Assembled} {entry exit words : List ℕ} {x : Result ℕ Refusal} {r : ℕ} → Left a entry exit x → Counted x words r → LeftTo a entry exit words r
 left_to l t =
     record {
       number = t.returned ∙ l.number;
       written = t.written ∙ ap (λ (n : ℕ). n ∷ []) l.length;
       left = l.left;
     }
-
-pub read_to : {m name algorithm name' algorithm' words : List ℕ} {p : TsigParts} {r : ℕ} → TsigTold m name algorithm name' algorithm' p → words ≡ field_words p → r ≡ p.number
-    → ReadTo m name algorithm name' algorithm' words r
-read_to t e i = rw (e, i) (record { ten = refl; told = t })
 
 -- the error of a later message's TSIG is not under its MAC
 pub later_error : (prior before m : List ℕ) (signed fudge id error : ℕ) (algorithm mac other : List ℕ) (room : ℕ)

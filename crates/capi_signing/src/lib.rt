@@ -6,36 +6,53 @@
 ghost use Rattle.std.specs.Prelude.{◌≡◌, List, ℕ, length};
 ghost use Rattle.model.specs.Signing.{digested_request, digested_reply, finished_in, removed_in};
 ghost use Rattle.model.specs.Received.{received_request, received_reply, received_later, digested_later};
-ghost use Rattle.capi_signing.specs.Written.{stamp, Counted, LeftTo, field_words, ReadTo};
+ghost use Rattle.digests.specs.Left.{number_in};
+ghost use Rattle.capi_signing.specs.Written.{stamp, Counted, LeftTo, words_in, ReadTo};
 
-use digests::{Assembly, TsigNumbers};
+use digests::{Refusal, TsigNumbers};
 use receiving::TsigParts;
 
 // ── Answers ─────────────────────────────────────────────────────────────────────────────────────────────────────────
 
-fn tell(written: &mut [u64; 1], a: Assembly) -> u64
+fn tell(written: &mut [u64; 1], a: Result<usize, Refusal>) -> u64
     ensures { Counted a written.new result }
 {
-    *written = [a.length];
-    a.number
+    match a {
+        Ok(length) => {
+            *written = [length as u64];
+            0
+        }
+        Err(refusal) => {
+            *written = [0];
+            refusal.number()
+        }
+    }
 }
 
-fn tell_parts(fields: &mut [u64; 10], p: TsigParts) -> u64
-    ensures { (fields.new ≡ field_words p) × (result ≡ p.number) }
+fn tell_parts(words: &mut [u64; 10], a: Result<TsigParts, Refusal>) -> u64
+    ensures { (words.new ≡ words_in a) × (result ≡ number_in a) }
 {
-    *fields = [
-        p.named,
-        p.hashed,
-        p.signed,
-        p.fudge,
-        p.mac_place,
-        p.mac_size,
-        p.original_id,
-        p.error,
-        p.other_place,
-        p.other_size,
-    ];
-    p.number
+    match a {
+        Ok(TsigParts { named, fields: f }) => {
+            *words = [
+                named as u64,
+                f.algorithm.size as u64,
+                f.signed as u64,
+                f.fudge as u64,
+                f.mac.from as u64,
+                f.mac.size as u64,
+                f.id as u64,
+                f.error as u64,
+                f.other.from as u64,
+                f.other.size as u64,
+            ];
+            0
+        }
+        Err(refusal) => {
+            *words = [0; 10];
+            refusal.number()
+        }
+    }
 }
 
 fn numbers(signed: u64, fudge: u16, original_id: u16, error: u16) -> TsigNumbers

@@ -2,7 +2,8 @@
 use Prim.Native.Nat.{ℕ, zero, suc, ◌+◌, ◌-◌, ◌≤◌, ◌<◌}
 use mathlib.Core.Path.{◌≡◌, refl, ap, sym, ◌∙◌}
 use mathlib.Core.Bool.{Bool, true, false, cond, ◌&&◌}
-use mathlib.Core.Option.{Option, none, some}
+use Rattle.std.specs.Cmp.Lexicographic.{pointwise}
+use Rattle.std.specs.Prelude.{nat_eq, Option, None, Some, Result, Err, Ok}
 use mathlib.Core.List.{List, [], ◌∷◌, ◌++◌}
 use native.Mathlib.Nat.{add_assoc, add-zero}
 use native.Mathlib.Numerals.{add-one}
@@ -14,32 +15,19 @@ use lib.Seq.{drop-cons, take_all, length-take-le}
 use Rattle.model.specs.Octets.{part, u16_at, Reading, stops, reads}
 use Rattle.model.specs.Names.{read_name}
 use Rattle.model.specs.Compare.{Placed, question_form, record_form, question_fields, record_fields, same_octets, same_field, first_in}
-use Rattle.model.proofs.Tests.{and_false}
 use Rattle.model.proofs.CompareFields.{Level}
-use Rattle.compression.specs.declared.Got.{Got}
-use Rattle.compression.specs.declared.Got.TheVariants.{Bad, Name}
 use Rattle.compression.specs.Skip.{NameSkipped}
 use Rattle.comparing.specs.Fields.{unless, total, octet_fields, NameStands, QuestionStands, RecordStands}
-use Rattle.comparing.specs.declared.Difference.TheVariants.{Nothing as Same, At}
-use Rattle.comparing.specs.declared.Stands.TheVariants.{Nothing}
+use Rattle.compression.specs.declared.Name.{Name}
 
 -- ── Octets ──────────────────────────────────────────────────────────────────────────────────────────────────────────
 
-pub octets_apart : (a b : List ℕ) → (length a ≡ length b → ⊥) → same_octets a b ≡ false
+pub octets_test : (a b : List ℕ) → pointwise nat_eq a b ≡ same_octets a b
 unfolding same_octets
-octets_apart [] [] h = absurd (h refl)
-octets_apart [] (y ∷ ys) h = refl
-octets_apart (x ∷ xs) [] h = refl
-octets_apart (x ∷ xs) (y ∷ ys) h = and_false (eqb x y) (octets_apart xs ys (λ e. h (ap suc e)))
-
-module _ (a b : List ℕ) (i : ℕ) where
-  pub octets_one : i < length a → i < length b → same_octets (drop i a) (drop i b) ≡ (eqb (get_or a i 0) (get_or b i 0) && same_octets (drop (i + 1) a) (drop (i + 1) b))
-  unfolding same_octets
-  octets_one ha hb = rw (drop-cons a i 0 ha, drop-cons b i 0 hb, add-one) refl
-
-  pub octets_none : length a ≤ i → length b ≤ i → same_octets (drop i a) (drop i b) ≡ true
-  unfolding same_octets
-  octets_none ha hb = rw (drop_of_length-le a ha, drop_of_length-le b hb) refl
+octets_test [] [] = refl
+octets_test [] (y ∷ ys) = refl
+octets_test (x ∷ xs) [] = refl
+octets_test (x ∷ xs) (y ∷ ys) = ap (λ t. eqb x y && t) (octets_test xs ys)
 
 take_nil : (k : ℕ) → take {A = ℕ} k [] ≡ []
 take_nil zero = refl
@@ -72,39 +60,39 @@ module _ (c d : List ℕ) (at place : ℕ) (t : Bool) (e : t ≡ same_octets (ta
   tested : t ≡ same_octets (drop at c) (drop at d)
   tested = rw (rest_whole c at, rest_whole d at) at e
 
-  pub rest_same : t ≡ true → Same ≡ unless (same_octets (drop at c) (drop at d)) place
+  pub rest_same : t ≡ true → None ≡ unless (same_octets (drop at c) (drop at d)) place
   rest_same h = rw (sym tested ∙ h) refl
 
-  pub rest_other : t ≡ false → At place ≡ unless (same_octets (drop at c) (drop at d)) place
+  pub rest_other : t ≡ false → Some place ≡ unless (same_octets (drop at c) (drop at d)) place
   rest_other h = rw (sym tested ∙ h) refl
 
 -- ── A name, and octets behind it ────────────────────────────────────────────────────────────────────────────────────
 
 -- what stepping over a name answered
-pub name_bad : (m : List ℕ) (n : Reading (List ℕ)) (r : Got) (p : ℕ) → NameSkipped m n r → r ≡ Bad p → n ≡ stops p
+pub name_bad : (m : List ℕ) (n : Reading (List ℕ)) (r : Result Name ℕ) (p : ℕ) → NameSkipped m n r → r ≡ Err p → n ≡ stops p
 name_bad m n r p s e = rw e at s.read.says
 
-pub name_ends : (m : List ℕ) (n : Reading (List ℕ)) (r : Got) (len next : ℕ) → NameSkipped m n r → r ≡ Name len next → next ≤ length m
+pub name_ends : (m : List ℕ) (n : Reading (List ℕ)) (r : Result Name ℕ) (len next : ℕ) → NameSkipped m n r → r ≡ Ok (record { len = len; next = next }) → next ≤ length m
 name_ends m n r len next s e = rw e at s.read.within
 
-pub name_is_lem : (m : List ℕ) (n : Reading (List ℕ)) (r : Got) (len next : ℕ) (s : NameSkipped m n r) → r ≡ Name len next → n ≡ reads (take len s.out) next
+pub name_is_lem : (m : List ℕ) (n : Reading (List ℕ)) (r : Result Name ℕ) (len next : ℕ) (s : NameSkipped m n r) → r ≡ Ok (record { len = len; next = next }) → n ≡ reads (take len s.out) next
 name_is_lem m n r len next s e = rw e at s.read.says
 
-module _ (m : List ℕ) (at : ℕ) (r : Got) (s : NameSkipped m (read_name m at) r) where
-  pub question_unread : (p : ℕ) → r ≡ Bad p → QuestionStands m at Nothing
+module _ (m : List ℕ) (at : ℕ) (r : Result Name ℕ) (s : NameSkipped m (read_name m at) r) where
+  pub question_unread : (p : ℕ) → r ≡ Err p → QuestionStands m at None
   unfolding question_fields
   question_unread p e on = rw (name_bad m (read_name m at) r p s e) refl
 
-  pub record_unread : (p : ℕ) → r ≡ Bad p → RecordStands m at Nothing
+  pub record_unread : (p : ℕ) → r ≡ Err p → RecordStands m at None
   unfolding record_fields
   record_unread p e on = rw (name_bad m (read_name m at) r p s e) refl
 
-  module _ (len next : ℕ) (e : r ≡ Name len next) where
-    pub question_cut : length m < next + 4 → QuestionStands m at Nothing
+  module _ (len next : ℕ) (e : r ≡ Ok (record { len = len; next = next })) where
+    pub question_cut : length m < next + 4 → QuestionStands m at None
     unfolding question_fields
     question_cut h on = rw (name_is_lem m (read_name m at) r len next s e, lt-ltb (length m) (next + 4) h) refl
 
-    pub record_cut : length m < next + 10 + u16_at m (next + 8) → RecordStands m at Nothing
+    pub record_cut : length m < next + 10 + u16_at m (next + 8) → RecordStands m at None
     unfolding record_fields
     record_cut h on = rw (name_is_lem m (read_name m at) r len next s e, lt-ltb (length m) (next + 10 + u16_at m (next + 8)) h) refl
 
@@ -138,7 +126,7 @@ pub passing_starts : (a : List ℕ) (i : ℕ) (b : List ℕ) (j place : ℕ) (ws
 passing_starts a i b j place ws = record { inside = omega arith; left = omega arith; says = λ end at. rw (add-zero i, add-zero j, add-zero at, add-zero place) refl }
 
 module _ (a : List ℕ) (i : ℕ) (b : List ℕ) (j place : ℕ) (ws : List ℕ) (k past : ℕ) (g : Passing a i b j place ws k past) where
-  pub passing_ends : length ws ≤ k → (end at : ℕ) → first_in end (octet_fields a i at ws) (octet_fields b j place ws) ≡ none
+  pub passing_ends : length ws ≤ k → (end at : ℕ) → first_in end (octet_fields a i at ws) (octet_fields b j place ws) ≡ None
   unfolding octet_fields first_in
   passing_ends h end at = g.says end at ∙ rw (drop_of_length-le ws h) refl
 
@@ -153,12 +141,12 @@ module _ (a : List ℕ) (i : ℕ) (b : List ℕ) (j place : ℕ) (ws : List ℕ)
         → first_in end (octet_fields a i at ws) (octet_fields b j place ws)
         ≡ cond (same_octets (part a (i + past) n) (part b (j + past) n))
         (first_in end (octet_fields a (i + past + n) (at + past + n) (drop (suc k) ws)) (octet_fields b (j + past + n) (place + past + n) (drop (suc k) ws)))
-        (some (place + past))
+        (Some (place + past))
     unfolding octet_fields first_in same_field
     one end at = g.says end at ∙ rw here refl
 
     pub passing_other : same_octets (part a (i + past) n) (part b (j + past) n) ≡ false → (end at : ℕ)
-        → first_in end (octet_fields a i at ws) (octet_fields b j place ws) ≡ some (place + past)
+        → first_in end (octet_fields a i at ws) (octet_fields b j place ws) ≡ Some (place + past)
     passing_other f end at = one end at ∙ rw f refl
 
     pub passing_on : same_octets (part a (i + past) n) (part b (j + past) n) ≡ true → Passing a i b j place ws (k + 1) (past + n)
@@ -177,8 +165,8 @@ level_octets a i at b j place (n ∷ ws) = λ _. level_octets a (i + n) (at + n)
 -- ── Fields behind fields ────────────────────────────────────────────────────────────────────────────────────────────
 
 abbrev pub or_else : Option ℕ → Option ℕ → Option ℕ
-or_else none o = o
-or_else (some place) o = some place
+or_else None o = o
+or_else (Some place) o = Some place
 
 pub first_join : (end : ℕ) (xs ys us vs : List Placed) → Level xs ys → first_in end (xs ++ us) (ys ++ vs) ≡ or_else (first_in end xs ys) (first_in end us vs)
 unfolding first_in
@@ -189,6 +177,6 @@ first_join end (x ∷ xs) (y ∷ ys) us vs l = go (same_field x.field y.field) r
   where
     go : (t : Bool) → same_field x.field y.field ≡ t
         → (same_field x.field y.field ≡ true → first_in end (xs ++ us) (ys ++ vs) ≡ or_else (first_in end xs ys) (first_in end us vs))
-        → cond t (first_in end (xs ++ us) (ys ++ vs)) (some y.place) ≡ or_else (cond t (first_in end xs ys) (some y.place)) (first_in end us vs)
+        → cond t (first_in end (xs ++ us) (ys ++ vs)) (Some y.place) ≡ or_else (cond t (first_in end xs ys) (Some y.place)) (first_in end us vs)
     go true e f = f e
     go false e f = refl

@@ -2,7 +2,7 @@
 use Prim.Native.Nat.{ℕ, ◌≤◌, ◌<◌}
 use mathlib.Core.Path.{◌≡◌, refl}
 use mathlib.Core.Bool.{Bool, true, false}
-use mathlib.Core.Option.{none, some}
+use Rattle.std.specs.Prelude.{None, Some, Result, Err, Ok}
 use mathlib.Core.List.{List, [], ◌∷◌}
 use native.Mathlib.Omega.{arith}
 use borrow.Author.Tests.{le-leb, lt-leb}
@@ -14,26 +14,25 @@ use Rattle.model.specs.Messages.{read_message}
 use Rattle.model.specs.Calls.{DONE, SIZE, FORMAT, DIFFERS, size_ok}
 use Rattle.model.specs.Compare.{first_difference, verdict, by_reading, by_size, compared}
 use Rattle.model.proofs.Tests.{both, and_false}
-use Rattle.messages.specs.declared.Outline.{Outline}
-use Rattle.messages.specs.declared.Outline.TheVariants.{Bad, Whole}
 use Rattle.messages.specs.declared.Seen.{Seen}
-use Rattle.messages.specs.declared.Last.{Last}
+use Rattle.records.specs.declared.Found.{Found}
 use Rattle.messages.specs.Scan.{Scanned}
+use Rattle.messages.specs.declared.Outline.{Outline}
 
 -- ── Of allowed size ─────────────────────────────────────────────────────────────────────────────────────────────────
 
 module _ (ours theirs : List ℕ) (v : Verdict) where
-  module _ (o : Outline) (scan : Scanned theirs o) where
-    pub scan_fails : (place : ℕ) → o ≡ Bad place → v ≡ verdict 6 place → v ≡ by_reading ours theirs (read_message theirs)
+  module _ (o : Result Outline ℕ) (scan : Scanned theirs o) where
+    pub scan_fails : (place : ℕ) → o ≡ Err place → v ≡ verdict 6 place → v ≡ by_reading ours theirs (read_message theirs)
     unfolding FORMAT
     scan_fails place e is = let s : read_message theirs ≡ stops place = rw e at scan in rw s is
 
-    module _ (end : ℕ) (request : Bool) (seen : Seen) (last : Last) (e : o ≡ Whole end request seen last) where
-      pub scan_same : first_difference ours theirs ≡ none → v ≡ verdict 0 0 → v ≡ by_reading ours theirs (read_message theirs)
+    module _ (end : ℕ) (request : Bool) (seen : Seen) (last : Found) (e : o ≡ Ok (record { end = end; request = request; seen = seen; last = last })) where
+      pub scan_same : first_difference ours theirs ≡ None → v ≡ verdict 0 0 → v ≡ by_reading ours theirs (read_message theirs)
       unfolding DONE
       scan_same f is = let w = rw e at scan in rw (w.says, f) is
 
-      pub scan_differs : (place : ℕ) → first_difference ours theirs ≡ some place → v ≡ verdict 21 place → v ≡ by_reading ours theirs (read_message theirs)
+      pub scan_differs : (place : ℕ) → first_difference ours theirs ≡ Some place → v ≡ verdict 21 place → v ≡ by_reading ours theirs (read_message theirs)
       unfolding DIFFERS
       scan_differs place f is = let w = rw e at scan in rw (w.says, f) is
 

@@ -2,7 +2,7 @@
 use Prim.Native.Nat.{ℕ, suc, ◌+◌, ◌-◌, ◌≤◌, ◌<◌}
 use mathlib.Core.Path.{◌≡◌, refl, ap, sym, ◌∙◌}
 use mathlib.Core.Bool.{Bool, true, false, cond}
-use mathlib.Core.Option.{none, some}
+use Rattle.std.specs.Prelude.{None, Some, Option}
 use mathlib.Core.List.{List, [], ◌∷◌, ◌++◌, append_assoc}
 use native.Mathlib.Nat.{add_assoc}
 use native.Mathlib.Omega.{arith}
@@ -12,11 +12,9 @@ use Rattle.model.specs.Names.{read_name, same_name}
 use Rattle.model.specs.Compare.{name_at, Placed, header_fields, question_form, record_form, data_fields, question_fields, record_fields, followed, fields_from, records_fields, fields_of, same_field, first_in, first_difference}
 use Rattle.model.proofs.CompareFields.{level_data}
 use Rattle.matching.specs.Compare.{same_read}
-use Rattle.comparing.specs.declared.Difference.{Difference}
-use Rattle.comparing.specs.declared.Difference.TheVariants.{Nothing as Same, At}
 use Rattle.comparing.specs.declared.Walk.{Walk}
 use Rattle.comparing.specs.declared.Walk.TheVariants.{Differs, Ends, Same as GoesOn}
-use Rattle.comparing.specs.Fields.{shown, octet_fields, NameStands, continued, Told, ToldFrom, counted, body_of, BodyTold}
+use Rattle.comparing.specs.Fields.{octet_fields, NameStands, continued, Told, ToldFrom, counted, body_of, BodyTold}
 use Rattle.comparing.proofs.Laws.{question_standing, record_standing, level_octets, or_else, first_join}
 use Rattle.comparing.proofs.DataLaws.{nth_number}
 
@@ -53,7 +51,7 @@ same_names a b i j p q k l s t u e = rw (s.named, t.named) at e
 module _ (a b : List ℕ) (i j p q end : ℕ) (s : NameStands a i p 4) (t : NameStands b j q 4) (u : Bool) (named : u ≡ same_read (read_name a i) (read_name b j)) where
   parted : (on off : ℕ → List Placed)
       → first_in end (followed (question_fields a i) on) (followed (question_fields b j) off)
-      ≡ cond u (or_else (first_in end (octet_fields a p p question_widths) (octet_fields b q q question_widths)) (first_in end (on (p + 4)) (off (q + 4)))) (some j)
+      ≡ cond u (or_else (first_in end (octet_fields a p p question_widths) (octet_fields b q q question_widths)) (first_in end (on (p + 4)) (off (q + 4)))) (Some j)
   unfolding first_in same_field
   parted on off =
       let join = first_join end (octet_fields a p p question_widths) (octet_fields b q q question_widths) (on (p + 4)) (off (q + 4)) (level_octets a p p b q q question_widths) in
@@ -62,11 +60,11 @@ module _ (a b : List ℕ) (i j p q end : ℕ) (s : NameStands a i p 4) (t : Name
   pub question_other : u ≡ false → Told end (question_fields a i) (question_fields b j) (Differs j)
   question_other f = record { says = λ on off. parted on off ∙ rw f refl }
 
-  module _ (same : u ≡ true) (r : Difference) (fixed : (end at : ℕ) → first_in end (octet_fields a p at question_widths) (octet_fields b q q question_widths) ≡ shown r) where
-    pub question_differs : (place : ℕ) → r ≡ At place → Told end (question_fields a i) (question_fields b j) (Differs place)
+  module _ (same : u ≡ true) (r : Option ℕ) (fixed : (end at : ℕ) → first_in end (octet_fields a p at question_widths) (octet_fields b q q question_widths) ≡ r) where
+    pub question_differs : (place : ℕ) → r ≡ Some place → Told end (question_fields a i) (question_fields b j) (Differs place)
     question_differs place e = record { says = λ on off. parted on off ∙ rw (same, fixed end p, e) refl }
 
-    pub question_same : r ≡ Same → Told end (question_fields a i) (question_fields b j) (GoesOn (p + 4) (q + 4))
+    pub question_same : r ≡ None → Told end (question_fields a i) (question_fields b j) (GoesOn (p + 4) (q + 4))
     question_same e = record { says = λ on off. parted on off ∙ rw (same, fixed end p, e) refl }
 
 -- ── Two records ─────────────────────────────────────────────────────────────────────────────────────────────────────
@@ -82,9 +80,9 @@ pub record_shows : (m : List ℕ) (at next : ℕ) (s : NameStands m at next (10 
 unfolding record_form octet_fields
 record_shows m at next s = record_standing m at next s ∙ simp add_assoc
 
-module _ (a b : List ℕ) (p q : ℕ) (r : Difference) (says : (end at : ℕ) → first_in end (octet_fields a p at record_widths) (octet_fields b q q record_widths) ≡ shown r) (e : r ≡ Same) where
-  none_there : first_in 0 (octet_fields a p 0 record_widths) (octet_fields b q q record_widths) ≡ none
-  none_there = says 0 0 ∙ ap shown e
+module _ (a b : List ℕ) (p q : ℕ) (r : Option ℕ) (says : (end at : ℕ) → first_in end (octet_fields a p at record_widths) (octet_fields b q q record_widths) ≡ r) (e : r ≡ None) where
+  none_there : first_in 0 (octet_fields a p 0 record_widths) (octet_fields b q q record_widths) ≡ None
+  none_there = says 0 0 ∙ e
 
   pub same_type : u16_at a p ≡ u16_at b q
   same_type = let x : p + 0 ≡ p = omega arith in let y : q + 0 ≡ q = omega arith in rw (x, y) at (nth_number 0 a p 0 b q q [] (2 ∷ 4 ∷ 2 ∷ []) none_there)
@@ -102,7 +100,7 @@ module _ (a b : List ℕ) (i j p q end : ℕ) (s : NameStands a i p (10 + u16_at
 
   parted_record : (on off : ℕ → List Placed)
       → first_in end (followed (record_fields a i) on) (followed (record_fields b j) off)
-      ≡ cond u (or_else (first_in end (octet_fields a p p record_widths) (octet_fields b q q record_widths)) (first_in end (record_data a p ++ on-a on) (record_data b q ++ on-b off))) (some j)
+      ≡ cond u (or_else (first_in end (octet_fields a p p record_widths) (octet_fields b q q record_widths)) (first_in end (record_data a p ++ on-a on) (record_data b q ++ on-b off))) (Some j)
   unfolding first_in same_field
   parted_record on off =
       let join = first_join end (octet_fields a p p record_widths) (octet_fields b q q record_widths) (record_data a p ++ on-a on) (record_data b q ++ on-b off) (level_octets a p p b q q record_widths) in
@@ -111,22 +109,22 @@ module _ (a b : List ℕ) (i j p q end : ℕ) (s : NameStands a i p (10 + u16_at
   pub record_other : u ≡ false → Told end (record_fields a i) (record_fields b j) (Differs j)
   record_other f = record { says = λ on off. parted_record on off ∙ rw f refl }
 
-  module _ (same : u ≡ true) (r : Difference) (says : (end at : ℕ) → first_in end (octet_fields a p at record_widths) (octet_fields b q q record_widths) ≡ shown r) where
-    pub record_differs : (place : ℕ) → r ≡ At place → Told end (record_fields a i) (record_fields b j) (Differs place)
+  module _ (same : u ≡ true) (r : Option ℕ) (says : (end at : ℕ) → first_in end (octet_fields a p at record_widths) (octet_fields b q q record_widths) ≡ r) where
+    pub record_differs : (place : ℕ) → r ≡ Some place → Told end (record_fields a i) (record_fields b j) (Differs place)
     record_differs place e = record { says = λ on off. parted_record on off ∙ rw (same, says end p, e) refl }
 
-    module _ (e : r ≡ Same) (d : Difference)
-        (told : (end : ℕ) → first_in end (record_data a p) (data_fields (u16_at a p) (q + 10) (part b (q + 10) (u16_at b (q + 8)))) ≡ shown d) where
-      parted_data : (on off : ℕ → List Placed) → first_in end (followed (record_fields a i) on) (followed (record_fields b j) off) ≡ or_else (shown d) (first_in end (on-a on) (on-b off))
+    module _ (e : r ≡ None) (d : Option ℕ)
+        (told : (end : ℕ) → first_in end (record_data a p) (data_fields (u16_at a p) (q + 10) (part b (q + 10) (u16_at b (q + 8)))) ≡ d) where
+      parted_data : (on off : ℕ → List Placed) → first_in end (followed (record_fields a i) on) (followed (record_fields b j) off) ≡ or_else (d) (first_in end (on-a on) (on-b off))
       parted_data on off =
           let k = same_type a b p q r says e in
           let join = first_join end (record_data a p) (data_fields (u16_at a p) (q + 10) (part b (q + 10) (u16_at b (q + 8)))) (on-a on) (on-b off) (level_data (u16_at a p) (p + 10) (q + 10) _ _) in
           parted_record on off ∙ rw (same, says end p, e, sym k) (join ∙ rw (told end) refl)
 
-      pub record_data_differs : (place : ℕ) → d ≡ At place → Told end (record_fields a i) (record_fields b j) (Differs place)
+      pub record_data_differs : (place : ℕ) → d ≡ Some place → Told end (record_fields a i) (record_fields b j) (Differs place)
       record_data_differs place f = record { says = λ on off. parted_data on off ∙ rw f refl }
 
-      pub record_same : (n : ℕ) → n ≡ u16_at a (p + 8) → d ≡ Same → Told end (record_fields a i) (record_fields b j) (GoesOn (p + 10 + n) (q + 10 + n))
+      pub record_same : (n : ℕ) → n ≡ u16_at a (p + 8) → d ≡ None → Told end (record_fields a i) (record_fields b j) (GoesOn (p + 10 + n) (q + 10 + n))
       record_same n is f = record { says = λ on off. parted_data on off ∙ rw (f, is, same_size a b p q r says e) refl }
 
 -- ── One after another ───────────────────────────────────────────────────────────────────────────────────────────────
@@ -135,15 +133,15 @@ module _ (a b : List ℕ) (i j p q end : ℕ) (s : NameStands a i p (10 + u16_at
 pub record Walking (end : ℕ) (ours theirs : ℕ → Reading (List Placed)) (n from to left i j : ℕ) : Type 0 where
   pub says : (on off : ℕ → List Placed) → first_in end (fields_from ours on n from) (fields_from theirs off n to) ≡ first_in end (fields_from ours on left i) (fields_from theirs off left j)
 
-pub walking_starts : (end : ℕ) (ours theirs : ℕ → Reading (List Placed)) (n i j : ℕ) → Walking end ours theirs n i j n i j
-walking_starts end ours theirs n i j = record { says = λ on off. refl }
+pub walking_starts : (end : ℕ) (ours theirs : ℕ → Reading (List Placed)) (n i j left : ℕ) → left ≡ n → Walking end ours theirs n i j left i j
+walking_starts end ours theirs n i j left e = rw e (record { says = λ on off. refl })
 
 module _ (end : ℕ) (ours theirs : ℕ → Reading (List Placed)) (n from to left i j : ℕ) (g : Walking end ours theirs n from to left i j) where
   pub walking_ends : left ≤ 0 → ToldFrom end ours theirs n from to (GoesOn i j)
   unfolding fields_from
   walking_ends z = record { says = λ on off. let e : left ≡ 0 = omega arith in g.says on off ∙ rw e refl }
 
-  module _ (some : 0 < left) (r : Walk) (one : Told end (ours i) (theirs j) r) where
+  module _ (more : 0 < left) (r : Walk) (one : Told end (ours i) (theirs j) r) where
     next : (on off : ℕ → List Placed) → first_in end (fields_from ours on n from) (fields_from theirs off n to)
         ≡ continued r (λ p q. first_in end (fields_from ours on (left - 1) p) (fields_from theirs off (left - 1) q))
     unfolding fields_from
@@ -159,8 +157,8 @@ module _ (end : ℕ) (ours theirs : ℕ → Reading (List Placed)) (n from to le
     pub walking_stops : r ≡ Ends → ToldFrom end ours theirs n from to Ends
     walking_stops e = record { says = λ on off. next on off ∙ rw e refl }
 
-    pub walking_on : (p q : ℕ) → r ≡ GoesOn p q → Walking end ours theirs n from to (left - 1) p q
-    walking_on p q e = record { says = λ on off. next on off ∙ rw e refl }
+    pub walking_on : (p q : ℕ) → r ≡ GoesOn p q → (k : ℕ) → k ≡ left - 1 → Walking end ours theirs n from to k p q
+    walking_on p q e k h = rw h (record { says = λ on off. next on off ∙ rw e refl })
 
 -- as counted in theirs
 pub walked_count : (end : ℕ) (ours theirs : ℕ → Reading (List Placed)) (n k from to : ℕ) (r : Walk) → n ≡ k → ToldFrom end ours theirs n from to r → ToldFrom end ours theirs k from to r
@@ -192,22 +190,22 @@ header_is : (m : List ℕ) → header_fields m ≡ octet_fields m 0 0 header_wid
 unfolding header_fields octet_fields
 header_is m = refl
 
-module _ (a b : List ℕ) (r : Difference) (header : (end at : ℕ) → first_in end (octet_fields a 0 at header_widths) (octet_fields b 0 0 header_widths) ≡ shown r) where
-  halves : first_difference a b ≡ or_else (shown r) (first_in (length b) (body_of a (u16_at a 4) (counted a)) (body_of b (u16_at b 4) (counted b)))
+module _ (a b : List ℕ) (r : Option ℕ) (header : (end at : ℕ) → first_in end (octet_fields a 0 at header_widths) (octet_fields b 0 0 header_widths) ≡ r) where
+  halves : first_difference a b ≡ or_else (r) (first_in (length b) (body_of a (u16_at a 4) (counted a)) (body_of b (u16_at b 4) (counted b)))
   unfolding first_difference fields_of records_fields
   halves =
       rw (header_is a, header_is b)
       (first_join (length b) (octet_fields a 0 0 header_widths) (octet_fields b 0 0 header_widths) (body_of a (u16_at a 4) (counted a)) (body_of b (u16_at b 4) (counted b)) (level_octets a 0 0 b 0 0 header_widths)
       ∙ rw (header (length b) 0) refl)
 
-  pub header_differs : (place : ℕ) → r ≡ At place → first_difference a b ≡ some place
+  pub header_differs : (place : ℕ) → r ≡ Some place → first_difference a b ≡ Some place
   header_differs place e = halves ∙ rw e refl
 
-  module _ (e : r ≡ Same) (w : Walk) (rest : BodyTold a b w) where
-    none_here : first_in 0 (octet_fields a 0 0 header_widths) (octet_fields b 0 0 header_widths) ≡ none
-    none_here = header 0 0 ∙ ap shown e
+  module _ (e : r ≡ None) (w : Walk) (rest : BodyTold a b w) where
+    none_here : first_in 0 (octet_fields a 0 0 header_widths) (octet_fields b 0 0 header_widths) ≡ None
+    none_here = header 0 0 ∙ e
 
-    by_counts : first_difference a b ≡ continued w (λ p q. none)
+    by_counts : first_difference a b ≡ continued w (λ p q. None)
     by_counts =
         let c₀ : u16_at a 4 ≡ u16_at b 4 = nth_number 0 a 0 0 b 0 0 (2 ∷ 2 ∷ []) (2 ∷ 2 ∷ 2 ∷ []) none_here in
         let c₁ : u16_at a 6 ≡ u16_at b 6 = nth_number 0 a 0 0 b 0 0 (2 ∷ 2 ∷ 2 ∷ []) (2 ∷ 2 ∷ []) none_here in
@@ -215,11 +213,11 @@ module _ (a b : List ℕ) (r : Difference) (header : (end at : ℕ) → first_in
         let c₃ : u16_at a 10 ≡ u16_at b 10 = nth_number 0 a 0 0 b 0 0 (2 ∷ 2 ∷ 2 ∷ 2 ∷ 2 ∷ []) [] none_here in
         halves ∙ rw (e, c₀, c₁, c₂, c₃) rest.says
 
-    pub later_differs : (place : ℕ) → w ≡ Differs place → first_difference a b ≡ some place
+    pub later_differs : (place : ℕ) → w ≡ Differs place → first_difference a b ≡ Some place
     later_differs place f = by_counts ∙ rw f refl
 
-    pub none_differs : w ≡ Ends → first_difference a b ≡ none
+    pub none_differs : w ≡ Ends → first_difference a b ≡ None
     none_differs f = by_counts ∙ rw f refl
 
-    pub all_same : (p q : ℕ) → w ≡ GoesOn p q → first_difference a b ≡ none
+    pub all_same : (p q : ℕ) → w ≡ GoesOn p q → first_difference a b ≡ None
     all_same p q f = by_counts ∙ rw f refl

@@ -1,25 +1,15 @@
 -- What the answers of the comparison say, against the crate model's fields of a message (02, CR 12). Assumes nothing.
-use Rattle.std.specs.Prelude.{ℕ, ◌+◌, ◌≤◌, ◌≡◌, Bool, true, false, List, [], ◌∷◌, length}
-use Rattle.std.proofs.Math.Option.{Option, none, some}
+use Rattle.std.specs.Prelude.{ℕ, ◌+◌, ◌≤◌, ◌≡◌, Bool, true, false, List, [], ◌∷◌, length, Option, None, Some}
 use Rattle.model.specs.Octets.{u16_at, part, Reading, reads}
 use Rattle.model.specs.Names.{read_name}
 use Rattle.model.specs.Compare.{octets, Placed, question_fields, record_fields, followed, fields_from, first_in}
-use Rattle.comparing.specs.declared.Difference.{Difference}
-use Rattle.comparing.specs.declared.Difference.TheVariants.{Nothing as Same, At}
-use Rattle.comparing.specs.declared.Stands.{Stands}
-use Rattle.comparing.specs.declared.Stands.TheVariants.{Nothing, Behind}
 use Rattle.comparing.specs.declared.Walk.{Walk}
 use Rattle.comparing.specs.declared.Walk.TheVariants.{Differs, Ends, Same as GoesOn}
 
--- The place that differs, if one does.
-abbrev pub shown : Difference → Option ℕ
-shown Same = none
-shown (At place) = some place
-
 -- One field, by whether it is the same.
-abbrev pub unless : Bool → ℕ → Difference
-unless true place = Same
-unless false place = At place
+abbrev pub unless : Bool → ℕ → Option ℕ
+unless true place = None
+unless false place = Some place
 
 -- ── Fields of octets ────────────────────────────────────────────────────────────────────────────────────────────────
 
@@ -41,20 +31,20 @@ pub record NameStands (m : List ℕ) (at next size : ℕ) : Type 0 where
   pub named : read_name m at ≡ reads name next
   pub fits : next + size ≤ length m
 
-abbrev pub QuestionStands : List ℕ → ℕ → Stands → Type 0
-QuestionStands m at Nothing = (on : ℕ → List Placed) → followed (question_fields m at) on ≡ []
-QuestionStands m at (Behind next) = NameStands m at next 4
+abbrev pub QuestionStands : List ℕ → ℕ → Option ℕ → Type 0
+QuestionStands m at None = (on : ℕ → List Placed) → followed (question_fields m at) on ≡ []
+QuestionStands m at (Some next) = NameStands m at next 4
 
-abbrev pub RecordStands : List ℕ → ℕ → Stands → Type 0
-RecordStands m at Nothing = (on : ℕ → List Placed) → followed (record_fields m at) on ≡ []
-RecordStands m at (Behind next) = NameStands m at next (10 + u16_at m (next + 8))
+abbrev pub RecordStands : List ℕ → ℕ → Option ℕ → Type 0
+RecordStands m at None = (on : ℕ → List Placed) → followed (record_fields m at) on ≡ []
+RecordStands m at (Some next) = NameStands m at next (10 + u16_at m (next + 8))
 
 -- ── Questions and records, and what follows ─────────────────────────────────────────────────────────────────────────
 
 -- The first difference, where `on` tells it of what follows.
 abbrev pub continued : Walk → (ℕ → ℕ → Option ℕ) → Option ℕ
-continued (Differs place) on = some place
-continued Ends on = none
+continued (Differs place) on = Some place
+continued Ends on = None
 continued (GoesOn ours theirs) on = on ours theirs
 
 -- The answer says where the first of these two things differ, whatever follows them.
@@ -76,4 +66,4 @@ body_of m n k = fields_from (question_fields m) (λ at. fields_from (record_fiel
 -- The answer says where these differ, as counted in theirs.
 pub record BodyTold (ours theirs : List ℕ) (r : Walk) : Type 0 where
   pub says :
-      first_in (length theirs) (body_of ours (u16_at theirs 4) (counted theirs)) (body_of theirs (u16_at theirs 4) (counted theirs)) ≡ continued r (λ p q. none)
+      first_in (length theirs) (body_of ours (u16_at theirs 4) (counted theirs)) (body_of theirs (u16_at theirs 4) (counted theirs)) ≡ continued r (λ p q. None)

@@ -6,19 +6,11 @@ ghost use Rattle.model.specs.Octets.{u16_at, part};
 ghost use Rattle.model.specs.Names.{read_plain};
 ghost use Rattle.model.specs.Messages.{read_message};
 ghost use Rattle.model.specs.Compare.{tkey_end, tkey_middle, tkey_fields, data_fields, question_fields, record_fields, same_octets, first_in, first_difference, verdict, by_reading, compared};
-ghost use Rattle.comparing.specs.Fields.{shown, unless, total, octet_fields, QuestionStands, RecordStands, Told, ToldFrom, counted, BodyTold};
-ghost use Rattle.comparing.specs.declared.Stands.TheVariants.{Behind};
+ghost use Rattle.comparing.specs.Fields.{unless, total, octet_fields, QuestionStands, RecordStands, Told, ToldFrom, counted, BodyTold};
 
-use compression::Got;
+use compression::Name;
 use messages::Outline;
 use model::Verdict;
-
-// What comparing fields gives: none differs; or the first that does stands at this place of theirs.
-#[derive(Clone, Copy)]
-enum Difference {
-    Nothing,
-    At(usize),
-}
 
 // ── Octets ──────────────────────────────────────────────────────────────────────────────────────────────────────────
 
@@ -26,17 +18,7 @@ enum Difference {
 fn same_octets(a: &[u8], b: &[u8]) -> bool
     ensures { result ≡ same_octets a.now b.now }
 {
-    if a.len() != b.len() {
-        return false;
-    }
-    let mut i = 0;
-    while i < a.len() {
-        if a[i] != b[i] {
-            return false;
-        }
-        i += 1;
-    }
-    true
+    a == b
 }
 
 // n octets of m from `from` on, or as many as there are.
@@ -49,8 +31,7 @@ fn part_at(m: &[u8], from: usize, n: usize) -> &[u8]
     if m.len() - from < n {
         return &m[from..];
     }
-    let to = from + n;
-    &m[from..to]
+    &m[from..from + n]
 }
 
 fn same_part(a: &[u8], i: usize, b: &[u8], j: usize, n: usize) -> bool
@@ -62,94 +43,92 @@ fn same_part(a: &[u8], i: usize, b: &[u8], j: usize, n: usize) -> bool
 }
 
 // Fields of these widths, one behind the other: of ours from i on, of theirs from j on, where the first stands at `place`.
-fn fields(a: &[u8], i: usize, b: &[u8], j: usize, place: usize, widths: &[u8]) -> Difference
+fn fields(a: &[u8], i: usize, b: &[u8], j: usize, place: usize, widths: &[u8]) -> Option<usize>
     requires { (i + total widths.now < 2 ^ 64) × (j + total widths.now < 2 ^ 64) × (place + total widths.now < 2 ^ 64) }
     ensures { (end at : ℕ)
-        → first_in end (octet_fields a.now i at widths.now) (octet_fields b.now j place widths.now) ≡ shown result }
+        → first_in end (octet_fields a.now i at widths.now) (octet_fields b.now j place widths.now) ≡ result }
 {
-    let mut k = 0;
     let mut past: usize = 0;
-    while k < widths.len() {
-        let n = octets::wide(widths[k]);
+    for width in widths {
+        let n = octets::wide(*width);
         if !same_part(a, i + past, b, j + past, n) {
-            return Difference::At(place + past);
+            return Some(place + past);
         }
         past += n;
-        k += 1;
     }
-    Difference::Nothing
+    None
 }
 
 // ── A record's data ─────────────────────────────────────────────────────────────────────────────────────────────────
 
 // One field: all that is left of ours and of theirs, which stand at the same place of their data; theirs begins at `base` of the message.
-fn rest(c: &[u8], d: &[u8], at: usize, base: usize) -> Difference
+fn rest(c: &[u8], d: &[u8], at: usize, base: usize) -> Option<usize>
     requires { (at ≤ length c.now) × (at ≤ length d.now) × (base + at < 2 ^ 64) }
     ensures { result ≡ unless (same_octets (drop at c.now) (drop at d.now)) (base + at) }
 {
     if same_octets(&c[at..], &d[at..]) {
-        return Difference::Nothing;
+        return None;
     }
-    Difference::At(base + at)
+    Some(base + at)
 }
 
 // Of a TKEY's data n octets of key data, other size and other data (RFC 2930, 2).
-fn tkey_end(c: &[u8], d: &[u8], from: usize, n: usize, base: usize) -> Difference
+fn tkey_end(c: &[u8], d: &[u8], from: usize, n: usize, base: usize) -> Option<usize>
     requires { (from ≤ length c.now) × (length c.now ≡ length d.now) × (n < 65536) × (base + length d.now < 2 ^ 64) }
-    ensures { (end i : ℕ) → first_in end (tkey_end i c.now from n) (tkey_end base d.now from n) ≡ shown result }
+    ensures { (end i : ℕ) → first_in end (tkey_end i c.now from n) (tkey_end base d.now from n) ≡ result }
 {
     if c.len() - from < n + 2 {
         return rest(c, d, from, base);
     }
     if !same_part(c, from, d, from, n) {
-        return Difference::At(base + from);
+        return Some(base + from);
     }
     let to = from + n;
     if !same_part(c, to, d, to, 2) {
-        return Difference::At(base + to);
+        return Some(base + to);
     }
     rest(c, d, to + 2, base)
 }
 
 // Inception, expiration, mode, error and key size, and what follows.
-fn tkey_middle(c: &[u8], d: &[u8], at: usize, base: usize) -> Difference
+fn tkey_middle(c: &[u8], d: &[u8], at: usize, base: usize) -> Option<usize>
     requires { (at ≤ length c.now) × (length c.now ≡ length d.now) × (base + length d.now < 2 ^ 64) }
-    ensures { (end i : ℕ) → first_in end (tkey_middle i c.now at) (tkey_middle base d.now at) ≡ shown result }
+    ensures { (end i : ℕ) → first_in end (tkey_middle i c.now at) (tkey_middle base d.now at) ≡ result }
 {
     if c.len() - at < 14 {
         return rest(c, d, at, base);
     }
     match fields(c, at, d, at, base + at, b"\x04\x04\x02\x02\x02") {
-        Difference::Nothing => tkey_end(c, d, at + 14, octets::u16_at(c, at + 12), base),
-        Difference::At(place) => Difference::At(place),
+        None => tkey_end(c, d, at + 14, octets::u16_at(c, at + 12), base),
+        Some(place) => Some(place),
     }
 }
 
 // A TKEY's data. Its algorithm, never compressed, compares as a name.
-fn tkey_data(c: &[u8], d: &[u8], base: usize) -> Difference
+fn tkey_data(c: &[u8], d: &[u8], base: usize) -> Option<usize>
     requires { (length c.now ≡ length d.now) × (base + length d.now < 2 ^ 64) }
     ensures { (end i : ℕ) → first_in end
         (tkey_fields i c.now (read_plain c.now 0))
-        (tkey_fields base d.now (read_plain d.now 0)) ≡ shown result }
+        (tkey_fields base d.now (read_plain d.now 0)) ≡ result }
 {
     match compression::skip_plain(c, 0) {
-        Got::Bad(_) => match compression::skip_plain(d, 0) {
-            Got::Bad(_) => rest(c, d, 0, base),
-            Got::Name { len: _, next: _ } => Difference::At(base),
+        Err(_) => match compression::skip_plain(d, 0) {
+            Err(_) => rest(c, d, 0, base),
+            Ok(Name { len: _, next: _ }) => Some(base),
         },
-        Got::Name { len: _, next } => {
+        Ok(Name { len: _, next }) => {
             if matching::same_names_at(c, 0, d, 0) {
                 return tkey_middle(c, d, next, base);
             }
-            Difference::At(base)
+            Some(base)
         }
     }
 }
 
 // The data of a record of this type.
-fn data_fields(kind: usize, c: &[u8], d: &[u8], base: usize) -> Difference
+fn data_fields(kind: usize, c: &[u8], d: &[u8], base: usize) -> Option<usize>
     requires { (length c.now ≡ length d.now) × (base + length d.now < 2 ^ 64) }
-    ensures { (end i : ℕ) → first_in end (data_fields kind i c.now) (data_fields kind base d.now) ≡ shown result }
+    ensures { (end i : ℕ) → first_in end (data_fields kind i c.now) (data_fields kind base d.now) ≡ result }
 {
     if kind == 249 {
         return tkey_data(c, d, base);
@@ -159,40 +138,33 @@ fn data_fields(kind: usize, c: &[u8], d: &[u8], base: usize) -> Difference
 
 // ── A question, a record ────────────────────────────────────────────────────────────────────────────────────────────
 
-// Whether a question or a record stands at a place; if so, the place behind its name.
-#[derive(Clone, Copy)]
-enum Stands {
-    Nothing,
-    Behind(usize),
-}
-
-fn question_at(m: &[u8], at: usize) -> Stands
+fn question_at(m: &[u8], at: usize) -> Option<usize>
     ensures { QuestionStands m.now at result }
 {
     match compression::skip_name(m, at) {
-        Got::Bad(_) => Stands::Nothing,
-        Got::Name { len: _, next } => {
+        Err(_) => None,
+        Ok(Name { len: _, next }) => {
             if m.len() - next < 4 {
-                return Stands::Nothing;
+                return None;
             }
-            Stands::Behind(next)
+            Some(next)
         }
     }
 }
 
-fn record_at(m: &[u8], at: usize) -> Stands
+fn record_at(m: &[u8], at: usize) -> Option<usize>
     ensures { RecordStands m.now at result }
 {
     match compression::skip_name(m, at) {
-        Got::Bad(_) => Stands::Nothing,
-        Got::Name { len: _, next } => {
+        Err(_) => None,
+        Ok(Name { len: _, next }) => {
             if m.len() - next < 10 {
-                return Stands::Nothing;
+                return None;
             }
             if m.len() - (next + 10) < octets::u16_at(m, next + 8) {
-                return Stands::Nothing;
+                return None;
             }
-            Stands::Behind(next)
+            Some(next)
         }
     }
 }
@@ -207,18 +179,18 @@ enum Walk {
 
 // The question at i of ours, whose name ends before p, and the question at j of theirs, whose name ends before q.
 fn question_fields(a: &[u8], i: usize, p: usize, b: &[u8], j: usize, q: usize) -> Walk
-    requires { QuestionStands a.now i (Behind p) × QuestionStands b.now j (Behind q) }
+    requires { QuestionStands a.now i (Some p) × QuestionStands b.now j (Some q) }
     ensures { Told (length b.now) (question_fields a.now i) (question_fields b.now j) result }
 {
     if !matching::same_names_at(a, i, b, j) {
         return Walk::Differs(j);
     }
     match fields(a, p, b, q, q, b"\x02\x02") {
-        Difference::Nothing => Walk::Same {
+        None => Walk::Same {
             ours: p + 4,
             theirs: q + 4,
         },
-        Difference::At(place) => Walk::Differs(place),
+        Some(place) => Walk::Differs(place),
     }
 }
 
@@ -227,25 +199,25 @@ fn question(a: &[u8], i: usize, b: &[u8], j: usize) -> Walk
     ensures { Told (length b.now) (question_fields a.now i) (question_fields b.now j) result }
 {
     match question_at(a, i) {
-        Stands::Nothing => match question_at(b, j) {
-            Stands::Nothing => Walk::Ends,
-            Stands::Behind(_) => Walk::Differs(j),
+        None => match question_at(b, j) {
+            None => Walk::Ends,
+            Some(_) => Walk::Differs(j),
         },
-        Stands::Behind(p) => match question_at(b, j) {
-            Stands::Nothing => Walk::Differs(b.len()),
-            Stands::Behind(q) => question_fields(a, i, p, b, j, q),
+        Some(p) => match question_at(b, j) {
+            None => Walk::Differs(b.len()),
+            Some(q) => question_fields(a, i, p, b, j, q),
         },
     }
 }
 
 // The data of two records of the same type and RDLENGTH, whose owners end before p and q.
-fn record_data(a: &[u8], p: usize, b: &[u8], q: usize) -> Difference
+fn record_data(a: &[u8], p: usize, b: &[u8], q: usize) -> Option<usize>
     requires { (p + 10 + u16_at a.now (p + 8) ≤ length a.now)
         × (q + 10 + u16_at b.now (q + 8) ≤ length b.now)
         × (u16_at a.now (p + 8) ≡ u16_at b.now (q + 8)) }
     ensures { (end : ℕ) → first_in end
         (data_fields (u16_at a.now p) (p + 10) (part a.now (p + 10) (u16_at a.now (p + 8))))
-        (data_fields (u16_at a.now p) (q + 10) (part b.now (q + 10) (u16_at b.now (q + 8)))) ≡ shown result }
+        (data_fields (u16_at a.now p) (q + 10) (part b.now (q + 10) (u16_at b.now (q + 8)))) ≡ result }
 {
     let size = octets::u16_at(a, p + 8);
     let c = part_at(a, p + 10, size);
@@ -255,17 +227,17 @@ fn record_data(a: &[u8], p: usize, b: &[u8], q: usize) -> Difference
 
 // The records, as the questions above.
 fn record_fields(a: &[u8], i: usize, p: usize, b: &[u8], j: usize, q: usize) -> Walk
-    requires { RecordStands a.now i (Behind p) × RecordStands b.now j (Behind q) }
+    requires { RecordStands a.now i (Some p) × RecordStands b.now j (Some q) }
     ensures { Told (length b.now) (record_fields a.now i) (record_fields b.now j) result }
 {
     if !matching::same_names_at(a, i, b, j) {
         return Walk::Differs(j);
     }
     match fields(a, p, b, q, q, b"\x02\x02\x04\x02") {
-        Difference::At(place) => Walk::Differs(place),
-        Difference::Nothing => match record_data(a, p, b, q) {
-            Difference::At(place) => Walk::Differs(place),
-            Difference::Nothing => {
+        Some(place) => Walk::Differs(place),
+        None => match record_data(a, p, b, q) {
+            Some(place) => Walk::Differs(place),
+            None => {
                 let size = octets::u16_at(a, p + 8);
                 Walk::Same {
                     ours: p + 10 + size,
@@ -280,13 +252,13 @@ fn record(a: &[u8], i: usize, b: &[u8], j: usize) -> Walk
     ensures { Told (length b.now) (record_fields a.now i) (record_fields b.now j) result }
 {
     match record_at(a, i) {
-        Stands::Nothing => match record_at(b, j) {
-            Stands::Nothing => Walk::Ends,
-            Stands::Behind(_) => Walk::Differs(j),
+        None => match record_at(b, j) {
+            None => Walk::Ends,
+            Some(_) => Walk::Differs(j),
         },
-        Stands::Behind(p) => match record_at(b, j) {
-            Stands::Nothing => Walk::Differs(b.len()),
-            Stands::Behind(q) => record_fields(a, i, p, b, j, q),
+        Some(p) => match record_at(b, j) {
+            None => Walk::Differs(b.len()),
+            Some(q) => record_fields(a, i, p, b, j, q),
         },
     }
 }
@@ -299,15 +271,13 @@ fn questions(a: &[u8], b: &[u8], count: usize) -> Walk
 {
     let mut i = 12;
     let mut j = 12;
-    let mut left = count;
-    while 0 < left {
+    for _ in 0..count {
         match question(a, i, b, j) {
             Walk::Differs(place) => return Walk::Differs(place),
             Walk::Ends => return Walk::Ends,
             Walk::Same { ours, theirs } => {
                 i = ours;
                 j = theirs;
-                left -= 1;
             }
         }
     }
@@ -320,15 +290,13 @@ fn records(a: &[u8], from: usize, b: &[u8], to: usize, count: usize) -> Walk
 {
     let mut i = from;
     let mut j = to;
-    let mut left = count;
-    while 0 < left {
+    for _ in 0..count {
         match record(a, i, b, j) {
             Walk::Differs(place) => return Walk::Differs(place),
             Walk::Ends => return Walk::Ends,
             Walk::Same { ours, theirs } => {
                 i = ours;
                 j = theirs;
-                left -= 1;
             }
         }
     }
@@ -358,16 +326,16 @@ fn behind_header(a: &[u8], b: &[u8]) -> Walk
 }
 
 // The first field that differs. Where the headers are the same, so are the counts.
-fn first_difference(a: &[u8], b: &[u8]) -> Difference
+fn first_difference(a: &[u8], b: &[u8]) -> Option<usize>
     requires { 12 ≤ length b.now }
-    ensures { first_difference a.now b.now ≡ shown result }
+    ensures { first_difference a.now b.now ≡ result }
 {
     match fields(a, 0, b, 0, 0, b"\x02\x02\x02\x02\x02\x02") {
-        Difference::At(place) => Difference::At(place),
-        Difference::Nothing => match behind_header(a, b) {
-            Walk::Differs(place) => Difference::At(place),
-            Walk::Ends => Difference::Nothing,
-            Walk::Same { ours: _, theirs: _ } => Difference::Nothing,
+        Some(place) => Some(place),
+        None => match behind_header(a, b) {
+            Walk::Differs(place) => Some(place),
+            Walk::Ends => None,
+            Walk::Same { ours: _, theirs: _ } => None,
         },
     }
 }
@@ -387,15 +355,17 @@ fn compare_sized(ours: &[u8], theirs: &[u8]) -> Verdict
     ensures { result ≡ by_reading ours.now theirs.now (read_message theirs.now) }
 {
     match messages::scan(theirs) {
-        Outline::Bad(place) => verdict_of(6, place),
-        Outline::Whole {
-            end: _,
-            request: _,
-            seen: _,
-            last: _,
-        } => match first_difference(ours, theirs) {
-            Difference::Nothing => verdict_of(0, 0),
-            Difference::At(place) => verdict_of(21, place),
+        Err(place) => verdict_of(6, place),
+        Ok(
+            Outline {
+                end: _,
+                request: _,
+                seen: _,
+                last: _,
+            },
+        ) => match first_difference(ours, theirs) {
+            None => verdict_of(0, 0),
+            Some(place) => verdict_of(21, place),
         },
     }
 }

@@ -8,7 +8,7 @@ use lib.Seq.{length-take-le, take-add, drop-drop, drop-cons}
 use Rattle.model.specs.Octets.{reads}
 use Rattle.model.specs.Names.{Item, ends, label, item_at, step, read_on, read_name}
 use Rattle.model.proofs.Reader.{unfolds}
-use Rattle.compression.specs.Plain.{PlainEnd}
+use Rattle.compression.specs.Plain.{PlainTo}
 use Rattle.compression.proofs.Laws.{item_fine}
 
 -- what is left: it is read on at `place`, after what lies from `at` up to there
@@ -32,10 +32,6 @@ plainly_starts m at =
       says = ap (read_on m at at) (sym z);
     }
 
--- no such name
-pub plain_none : (m : List ℕ) (at : ℕ) → PlainEnd m at 0
-plain_none m at = record { says = λ h. absurd (omega arith); after = λ h. absurd (omega arith); within = omega arith }
-
 module _ (m : List ℕ) (at place : ℕ) (g : Plainly m at place) where
   -- k octets more
   further : (k : ℕ) → take (place - at) (drop at m) ++ take k (drop place m) ≡ take (place + k - at) (drop at m)
@@ -47,13 +43,13 @@ module _ (m : List ℕ) (at place : ℕ) (g : Plainly m at place) where
   here : {i : Item} → item_at m at place (place - at) ≡ i → read_name m at ≡ step (read_on m) m at place (take (place - at) (drop at m)) i
   here e = g.says ∙ unfolds m at place (take (place - at) (drop at m)) (omega (arith, g.counted, g.few)) ∙ rw (g.counted, e) refl
 
-  pub plainly_ends : item_at m at place (place - at) ≡ ends → PlainEnd m at (place + 1)
+  pub plainly_ends : item_at m at place (place - at) ≡ ends → PlainTo m at (place + 1)
   plainly_ends e =
       let f = item_fine m at place (place - at) e in
       let z : take 1 (drop place m) ≡ 0 ∷ [] = rw (drop-cons m place 0 f.0) (ap (λ (x : ℕ). x ∷ []) f.1) in
       record {
-        says = λ h. here e ∙ ap (λ (o : List ℕ). reads o (place + 1)) (ap (λ (x : List ℕ). take (place - at) (drop at m) ++ x) (sym z) ∙ further 1);
-        after = λ h. omega (arith, g.from);
+        says = here e ∙ ap (λ (o : List ℕ). reads o (place + 1)) (ap (λ (x : List ℕ). take (place - at) (drop at m) ++ x) (sym z) ∙ further 1);
+        after = omega (arith, g.from);
         within = omega (arith, f.0);
       }
 

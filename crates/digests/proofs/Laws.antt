@@ -1,19 +1,19 @@
 -- Names in canonical form, octet by octet, and the pieces that the code writes, joined as the crate model has them. Assumes nothing.
-use Prim.Native.Nat.{ℕ, ◌+◌, ◌-◌, ◌≤◌, ◌<◌}
-use mathlib.Core.Path.{◌≡◌, refl}
-use mathlib.Core.List.{List, [], ◌∷◌, ◌++◌, append_assoc}
-use native.Mathlib.Numerals.{add-one}
+use Prim.Native.Nat.{ℕ, ◌+◌, ◌-◌, ◌≤◌}
+use mathlib.Core.Path.{◌≡◌, refl, ap, ap₂, ◌∙◌}
+use mathlib.Core.List.{List, [], ◌∷◌, ◌++◌, map, append_assoc}
 use native.Mathlib.Omega.{arith}
-use lib.ListN.{length, take, drop, get_or, length-drop, length-append}
-use lib.Seq.{take-suc, take_all}
-use Rattle.model.specs.Octets.{be16, be32, be48}
-use Rattle.model.specs.Names.{lower_of}
+use lib.ListN.{length, take, drop, length-drop, length-append}
+use lib.Seq.{take_all, drop-drop, drop-append_seam}
+use borrow.Rule.Slice.PartMut.{put_mid}
+use Rattle.std.specs.Char.{to_ascii_lowercase}
+use Rattle.model.specs.Octets.{be16, be32, be48, overlay, part, put}
 use Rattle.model.specs.Tsig.{any_class}
 use Rattle.model.specs.Signing.{Stamp, canonical, tsig_data, variables, with_id, request_digest, reply_digest}
 use Rattle.model.specs.Received.{timers, later_digest}
 use Rattle.octets.specs.Wrote.{Wrote}
-use Rattle.octets.proofs.Laws.{then, wrote_as}
-use Rattle.octets.proofs.Back.{wrote_none}
+use Rattle.octets.proofs.Back.{kept_before, from_place, written_part}
+use Rattle.names.proofs.Cases.{lowered}
 
 -- ── Canonical form ──────────────────────────────────────────────────────────────────────────────────────────────────
 
@@ -22,34 +22,26 @@ unfolding canonical
 canonical_length [] = refl
 canonical_length (x ∷ xs) = rw (canonical_length xs) refl
 
-canonical_append : (xs ys : List ℕ) → canonical (xs ++ ys) ≡ canonical xs ++ canonical ys
+canonical_lower : (xs : List ℕ) → map to_ascii_lowercase xs ≡ canonical xs
 unfolding canonical
-canonical_append [] ys = refl
-canonical_append (x ∷ xs) ys = rw (canonical_append xs ys) refl
+canonical_lower [] = refl
+canonical_lower (x ∷ xs) = ap₂ (λ (y : ℕ) (ys : List ℕ). y ∷ ys) (lowered x) (canonical_lower xs)
 
-canonical_one : (x : ℕ) → canonical (x ∷ []) ≡ lower_of x ∷ []
-unfolding canonical
-canonical_one x = refl
+-- a name that was written, and then put in lower case where it stands
+module _ {name b b' : List ℕ} {at next : ℕ} (w : Wrote name at b b' next) where
+  stands : take (next - at) (drop at b') ≡ name
+  unfolding part
+  stands = let k : next - at ≡ length name = omega arith in rw k (written_part w)
 
--- one octet more, and the last
-canonical_turn : (xs : List ℕ) (i : ℕ) → i < length xs → canonical (take i xs) ++ (lower_of (get_or xs i 0) ∷ []) ≡ canonical (take (i + 1) xs)
-canonical_turn xs i h = rw (add-one, take-suc xs i 0, canonical_append, canonical_one) refl
-
-module _ (name b : List ℕ) (at : ℕ) where
-  pub canonical_none : at ≤ length b → Wrote (canonical (take 0 name)) at b b (at + 0)
-  unfolding canonical
-  canonical_none h = let z : at + 0 ≡ at = omega arith in rw z (wrote_none b at h)
-
-  module _ (b' : List ℕ) (i : ℕ) (w : Wrote (canonical (take i name)) at b b' (at + i)) where
-    pub canonical_more : i < length name → (b'' : List ℕ) (x next : ℕ) → x ≡ lower_of (get_or name i 0) → next ≡ at + i + 1
-        → Wrote (x ∷ []) (at + i) b' b'' next
-        → Wrote (canonical (take (i + 1) name)) at b b'' (at + (i + 1))
-    canonical_more h b'' x next e n v =
-        let k : next ≡ at + (i + 1) = omega arith in
-        wrote_as (canonical_turn name i h) (rw (k, e) at (then w v))
-
-    pub canonical_done : length name ≤ i → Wrote (canonical name) at b b' (at + i)
-    canonical_done h = rw (take_all i name h) at w
+  pub canonical_done : (ys : List ℕ) → ys ≡ map to_ascii_lowercase (take (next - at) (drop at b')) → Wrote (canonical name) at b (put_mid at (next - at) b' ys) next
+  unfolding overlay put
+  canonical_done ys e =
+      let k : next - at ≡ length name = omega arith in
+      let n = canonical_length name in
+      let rest : drop (length name) (drop at b') ≡ drop (length name) (drop at b) =
+      ap (drop (length name)) (from_place w) ∙ drop-append_seam name (drop next b) ∙ rw (drop-drop, w.ends) refl in
+      let low : ys ≡ canonical name = e ∙ rw stands (canonical_lower name) in
+      record { ends = omega (arith, n); room = w.room; left = rw (low, k, n, kept_before w, rest) refl }
 
 -- ── Pieces ──────────────────────────────────────────────────────────────────────────────────────────────────────────
 

@@ -5,7 +5,10 @@ ghost use Rattle.std.specs.Prelude.{◌≡◌, List, ◌++◌, ℕ, ◌+◌, ◌
 ghost use Rattle.model.specs.Octets.{be16, be48, part};
 ghost use Rattle.model.specs.Signing.{tsig_data, canonical, variables, request_digest};
 ghost use Rattle.octets.specs.Wrote.{Wrote};
+ghost use Rattle.digests.specs.Left.{number_of, refusal_of};
 ghost use Rattle.digests.specs.Stamps.{stamp_of};
+
+use contents::Unread;
 
 // What a TSIG says besides its names, its MAC and its other data.
 #[derive(Clone, Copy)]
@@ -16,18 +19,41 @@ pub struct TsigNumbers {
     pub error: u16,
 }
 
-// What a call over these writers returns: its number, and how many octets it wrote.
+// The refusals of the calls over these writers, each with its number.
 #[derive(Clone, Copy)]
-pub struct Assembly {
-    pub number: u64,
-    pub length: u64,
+pub enum Refusal {
+    Time,
+    Size,
+    Format,
+    Room,
+    Name,
+    MacSize,
 }
 
-// A refusal: nothing is written.
-pub fn refused(number: u64) -> Assembly
-    ensures { result ≡ record { number = number; length = 0 } }
-{
-    Assembly { number, length: 0 }
+impl Refusal {
+    pub fn number(self) -> u64
+        ensures { result ≡ number_of self }
+    {
+        match self {
+            Refusal::Time => 2,
+            Refusal::Size => 4,
+            Refusal::Format => 6,
+            Refusal::Room => 8,
+            Refusal::Name => 12,
+            Refusal::MacSize => 16,
+        }
+    }
+}
+
+impl From<Unread> for Refusal {
+    ghost from_gives = { λ u r. r ≡ refusal_of u };
+
+    fn from(u: Unread) -> Refusal {
+        match u {
+            Unread::Size => Refusal::Size,
+            Unread::Broken { place: _ } => Refusal::Format,
+        }
+    }
 }
 
 // A name in canonical form: A to Z in lower case.
@@ -35,14 +61,9 @@ fn canonical_into(buf: &mut [u8], at: usize, name: &[u8]) -> usize
     requires { at + length name.now ≤ length buf.old }
     ensures { (result ≡ at + length name.now) × Wrote (canonical name.now) at buf.old buf.new result }
 {
-    let mut i: usize = 0;
-    while i < name.len() {
-        let x = name[i];
-        let y = names::lower(x);
-        octets::u8_into(buf, at + i, y);
-        i += 1;
-    }
-    at + i
+    let end = octets::all_into(buf, at, name);
+    buf[at..end].make_ascii_lowercase();
+    end
 }
 
 // Time signed and fudge.

@@ -2,7 +2,8 @@
 use Prim.Native.Nat.{ℕ, ◌+◌, ◌-◌, ◌%◌, ◌≤◌, ◌<◌}
 use mathlib.Core.Path.{◌≡◌, refl, ap, ap₂, sym, subst, ◌∙◌}
 use mathlib.Core.Bool.{Bool, true, false, cond, ◌&&◌, false≢true, true≢false}
-use mathlib.Core.Option.{Option, none, some, none-ne-some, some-injective}
+use Rattle.std.specs.Prelude.{Option, None, Some, Result, Err, Ok}
+use Rattle.std.proofs.lemmas.Option.{none-some, same_Some}
 use mathlib.Core.List.{List}
 use native.Mathlib.Omega.{arith}
 use lib.Dec.{eqb, ltb}
@@ -10,12 +11,8 @@ use lib.ListN.{length, get_or, take}
 use borrow.Author.Tests.{eq-eqb, ne_eqb}
 use Rattle.model.specs.declared.Span.{Span}
 use Rattle.model.specs.declared.Algorithm.{Algorithm}
-use Rattle.model.specs.declared.Named.{Named}
-use Rattle.model.specs.declared.Named.TheVariants.{Known, Unknown}
 use Rattle.model.specs.declared.Holding.{Holding}
 use Rattle.model.specs.declared.Asking.{Asking}
-use Rattle.model.specs.declared.OpenRequest.{OpenRequest}
-use Rattle.model.specs.declared.OpenRequest.TheVariants.{Nothing as NoRequest, Sent}
 use Rattle.model.specs.declared.Resolver.{Resolver}
 use Rattle.model.specs.Octets.{part, u16_at, u32_at, Reading, stops, reads}
 use Rattle.model.specs.Names.{read_plain, algorithm_named}
@@ -27,40 +24,37 @@ use Rattle.model.specs.Granted.{key_data_named, key_data_of, offered_data, moved
 use Rattle.model.proofs.Plain.{plain_part}
 use Rattle.octets.proofs.Laws.{part_length as length_part}
 use Rattle.matching.specs.Compare.{name_standing}
-use Rattle.records.specs.declared.Found.{Found}
-use Rattle.records.specs.declared.Found.TheVariants.{Bad, At as FoundAt}
 use Rattle.records.specs.Record.{Within, cut, shown as shownRecord, RecordSkipped}
 use Rattle.records.proofs.Parts.{part_length, part_part}
 use Rattle.messages.specs.declared.Kept.{Kept}
 use Rattle.messages.specs.declared.Kept.TheVariants.{Once}
 use Rattle.messages.specs.Scan.{key_by}
 use Rattle.messages.specs.Answers.{AnswersRead}
-use Rattle.tkey.specs.declared.Layout.{Layout}
-use Rattle.tkey.specs.declared.Layout.TheVariants.{Ill, Fields}
 use Rattle.tkey.specs.Fields.{answer_laid_out, LayoutRead}
 use Rattle.tsig.specs.declared.TsigFields.{TsigFields}
 use Rattle.tsig.specs.declared.Signer.{Signer}
 use Rattle.tsig.specs.declared.Signer.TheVariants.{Nobody, Ill as IllSigned, Key}
 use Rattle.tsig.specs.Signature.{tsig_from, shown as signerShown}
 use Rattle.contents.specs.declared.Contents.{Contents}
-use Rattle.contents.specs.declared.Reading.{Reading as WholeReading}
-use Rattle.contents.specs.declared.Reading.TheVariants.{Size, Broken, Whole}
+use Rattle.contents.specs.declared.Unread.{Unread}
+use Rattle.contents.specs.declared.Unread.TheVariants.{Size, Broken}
 use Rattle.contents.specs.Contents.{ContentsRead, ReadAs}
 use Rattle.resolver_replies.specs.Hearing.{MessageRead}
-use Rattle.granted.specs.declared.KeyData.{KeyData}
-use Rattle.granted.specs.declared.KeyData.TheVariants.{Nothing, At}
 use Rattle.granted.specs.Brought.{DataRead, renews, brought, brought_by, ContentRead, PlaceRead, KeptRead, AnswerRead, AcceptedRead, SignedRead, AwaitedRead}
+use Rattle.records.specs.declared.Found.{Found}
+use Rattle.tkey.specs.declared.Layout.{Layout}
+use Rattle.model.specs.declared.OpenRequest.{OpenRequest}
 
 -- ── Where the key data of a TKEY lies ───────────────────────────────────────────────────────────────────────────────
 
 -- the algorithm of a well-formed TKEY is the name that was read
 module _ (r : Record) (algorithm : List ℕ) (t : TkeyAnswer) where
-  by_end : (b : Bool) (x : TkeyAnswer) → x.algorithm ≡ algorithm → cond b (some x) none ≡ some t → t.algorithm ≡ algorithm
-  by_end true x e h = ap (λ (y : TkeyAnswer). y.algorithm) (sym (some-injective x t h)) ∙ e
-  by_end false x e h = absurd (none-ne-some t h)
+  by_end : (b : Bool) (x : TkeyAnswer) → x.algorithm ≡ algorithm → cond b (Some x) None ≡ Some t → t.algorithm ≡ algorithm
+  by_end true x e h = ap (λ (y : TkeyAnswer). y.algorithm) (sym (same_Some x t h)) ∙ e
+  by_end false x e h = absurd (none-some t h)
 
-  by_room : (b : Bool) (x : Option TkeyAnswer) → (x ≡ some t → t.algorithm ≡ algorithm) → cond b none x ≡ some t → t.algorithm ≡ algorithm
-  by_room true x f h = absurd (none-ne-some t h)
+  by_room : (b : Bool) (x : Option TkeyAnswer) → (x ≡ Some t → t.algorithm ≡ algorithm) → cond b None x ≡ Some t → t.algorithm ≡ algorithm
+  by_room true x f h = absurd (none-some t h)
   by_room false x f h = f h
 
   abbrev made : ℕ → TkeyAnswer
@@ -74,15 +68,15 @@ module _ (r : Record) (algorithm : List ℕ) (t : TkeyAnswer) where
         error = u16_at r.content (at + 10);
       }
 
-  by_other : (at tail : ℕ) → answer_other r algorithm at tail ≡ some t → t.algorithm ≡ algorithm
+  by_other : (at tail : ℕ) → answer_other r algorithm at tail ≡ Some t → t.algorithm ≡ algorithm
   unfolding answer_other
   by_other at tail h = by_end (eqb (tail + 2 + u16_at r.content tail) (length r.content)) (made at) refl h
 
-  by_key : (at tail : ℕ) → answer_key r algorithm at tail ≡ some t → t.algorithm ≡ algorithm
+  by_key : (at tail : ℕ) → answer_key r algorithm at tail ≡ Some t → t.algorithm ≡ algorithm
   unfolding answer_key
   by_key at tail h = by_room (ltb (length r.content) (tail + 2)) (answer_other r algorithm at tail) (by_other at tail) h
 
-  answered_name : (at : ℕ) → answer_times r algorithm at ≡ some t → t.algorithm ≡ algorithm
+  answered_name : (at : ℕ) → answer_times r algorithm at ≡ Some t → t.algorithm ≡ algorithm
   unfolding answer_times
   answered_name at h =
       let tail = at + 14 + u16_at r.content (at + 12) in
@@ -90,9 +84,9 @@ module _ (r : Record) (algorithm : List ℕ) (t : TkeyAnswer) where
 
 -- so where its name ends is known by how long it is
 module _ (r : Record) (t : TkeyAnswer) (next : ℕ) (long : length t.algorithm ≡ next) where
-  data_named : (x : Reading (List ℕ)) → read_plain r.content 0 ≡ x → answer_named r x ≡ some t
+  data_named : (x : Reading (List ℕ)) → read_plain r.content 0 ≡ x → answer_named r x ≡ Some t
       → key_data_named r x ≡ part r.content (next + 14) (u16_at r.content (next + 12))
-  data_named (stops place) e h = absurd (none-ne-some t h)
+  data_named (stops place) e h = absurd (none-some t h)
   data_named (reads algorithm at) e h =
       let p = plain_part r.content 0 algorithm at e in
       let n = answered_name r algorithm t at h in
@@ -100,51 +94,51 @@ module _ (r : Record) (t : TkeyAnswer) (next : ℕ) (long : length t.algorithm �
       let i : at ≡ next = sym l ∙ ap length (sym n) ∙ long in
       rw i refl
 
-  pub data_of : answer_of r ≡ some t → key_data_of r ≡ part r.content (next + 14) (u16_at r.content (next + 12))
+  pub data_of : answer_of r ≡ Some t → key_data_of r ≡ part r.content (next + 14) (u16_at r.content (next + 12))
   unfolding answer_of key_data_of
   data_of h = data_named (read_plain r.content 0) refl h
 
 -- the part `content` of the message m is d, laid out as l
-module _ (m : List ℕ) (content : Span) (w : Within m content) (d : List ℕ) (here : d ≡ cut m content) (l : Layout) (n : LayoutRead d l) where
-  goes : (x : Layout) → l ≡ x → (r : Record) → r.content ≡ cut m content → answer_of r ≡ answer_laid_out r d x
+module _ (m : List ℕ) (content : Span) (w : Within m content) (d : List ℕ) (here : d ≡ cut m content) (l : Option Layout) (n : LayoutRead d l) where
+  goes : (x : Option Layout) → l ≡ x → (r : Record) → r.content ≡ cut m content → answer_of r ≡ answer_laid_out r d x
   goes x h r is = n.answers r (is ∙ sym here) ∙ ap (answer_laid_out r d) h
 
-  pub in_ill : l ≡ Ill → ContentRead m content Nothing
-  in_ill h = record { says = λ r is. ap (brought r) (goes Ill h r is); fits = tt }
+  pub in_ill : l ≡ None → ContentRead m content None
+  in_ill h = record { says = λ r is. ap (brought r) (goes None h r is); fits = tt }
 
-  module _ (next count size : ℕ) (h : l ≡ Fields next count size) where
+  module _ (next count size : ℕ) (h : l ≡ Some (record { next = next; count = count; size = size })) where
     pub in_fits : (next ≤ 255) × (count ≡ u16_at d (next + 12)) × (count < 65536) × (size < 65536) × (next + 14 + count + 2 + size ≡ length d)
     in_fits = rw h at n.fits
 
     pub in_name : content.from + next + 14 ≤ length m
     in_name = let b = in_fits in let i = part_length m content w d here in omega arith
 
-    there : (r : Record) → r.content ≡ cut m content → brought r (answer_of r) ≡ brought r (answer_laid_out r d (Fields next count size))
-    there r is = ap (brought r) (goes (Fields next count size) h r is)
+    there : (r : Record) → r.content ≡ cut m content → brought r (answer_of r) ≡ brought r (answer_laid_out r d (Some (record { next = next; count = count; size = size })))
+    there r is = ap (brought r) (goes (Some (record { next = next; count = count; size = size })) h r is)
 
     module _ (mode : ℕ) (is_mode_lem : mode ≡ u16_at d (next + 8)) where
-      pub in_mode : (mode ≡ 4098 → ⊥) → ContentRead m content Nothing
+      pub in_mode : (mode ≡ 4098 → ⊥) → ContentRead m content None
       in_mode k = record { says = λ r is. there r is ∙ rw (← is_mode_lem, ne_eqb mode 4098 k) refl; fits = tt }
 
       module _ (k : mode ≡ 4098) (error : ℕ) (is-error : error ≡ u16_at d (next + 10)) where
-        pub in_error : (error ≡ 0 → ⊥) → ContentRead m content Nothing
+        pub in_error : (error ≡ 0 → ⊥) → ContentRead m content None
         in_error j = record { says = λ r is. there r is ∙ rw (← is_mode_lem, eq-eqb mode 4098 k, ← is-error, ne_eqb error 0 j) refl; fits = tt }
 
-        module _ (j : error ≡ 0) (a : List ℕ) (named : a ≡ part m content.from next) (g : Named) (is-named : g ≡ algorithm_named a) where
+        module _ (j : error ≡ 0) (a : List ℕ) (named : a ≡ part m content.from next) (g : Option Algorithm) (is-named : g ≡ algorithm_named a) where
           same_name_lem : a ≡ part d 0 next
           same_name_lem =
               let b = in_fits in
               named ∙ sym (part_part m content w d here 0 content.from next (omega arith) (omega arith))
 
-          ends : (x : Named) → g ≡ x → (r : Record) → r.content ≡ cut m content → brought r (answer_of r) ≡ offered_data r x
+          ends : (x : Option Algorithm) → g ≡ x → (r : Record) → r.content ≡ cut m content → brought r (answer_of r) ≡ offered_data r x
           ends x f r is =
               let q : algorithm_named (part d 0 next) ≡ x = ap algorithm_named (sym same_name_lem) ∙ sym is-named ∙ f in
               there r is ∙ rw (← is_mode_lem, eq-eqb mode 4098 k, ← is-error, eq-eqb error 0 j, q) refl
 
-          pub in_unknown : g ≡ Unknown → ContentRead m content Nothing
-          in_unknown f = record { says = λ r is. ends Unknown f r is; fits = tt }
+          pub in_unknown : g ≡ None → ContentRead m content None
+          in_unknown f = record { says = λ r is. ends None f r is; fits = tt }
 
-          pub in_known : (x : Algorithm) → g ≡ Known x → ContentRead m content (At (record { from = content.from + next + 14; size = count }))
+          pub in_known : (x : Algorithm) → g ≡ Some x → ContentRead m content (Some (record { from = content.from + next + 14; size = count }))
           in_known x f =
               let b = in_fits in
               let i = part_length m content w d here in
@@ -152,9 +146,9 @@ module _ (m : List ℕ) (content : Span) (w : Within m content) (d : List ℕ) (
               = part_part m content w d here (next + 14) (content.from + next + 14) count (omega arith) (omega arith) in
               record {
                 says = λ r is.
-                    ends (Known x) f r is
-                    ∙ ap some
-                    (data_of r _ next (length_part d 0 next (omega arith)) (goes (Fields next count size) h r is)
+                    ends (Some x) f r is
+                    ∙ ap Some
+                    (data_of r _ next (length_part d 0 next (omega arith)) (goes (Some (record { next = next; count = count; size = size })) h r is)
                     ∙ ap (λ (y : List ℕ). part y (next + 14) (u16_at y (next + 12))) (is ∙ sym here)
                     ∙ ap (part d (next + 14)) (sym b.1)
                     ∙ c);
@@ -163,29 +157,29 @@ module _ (m : List ℕ) (content : Span) (w : Within m content) (d : List ℕ) (
 
 -- ── The record at a place, and what a pass kept ─────────────────────────────────────────────────────────────────────
 
-module _ (m : List ℕ) (place : ℕ) (f : Found) (q : RecordSkipped m place f) where
-  pub at_bad : (p : ℕ) → f ≡ Bad p → PlaceRead m place Nothing
+module _ (m : List ℕ) (place : ℕ) (f : Result Found ℕ) (q : RecordSkipped m place f) where
+  pub at_bad : (p : ℕ) → f ≡ Err p → PlaceRead m place None
   at_bad p e = record { says = λ section. simp (q.read.says section, e); fits = tt }
 
-  module _ (len kind class ttl : ℕ) (content : Span) (e : f ≡ FoundAt len kind class ttl content) where
+  module _ (len kind class ttl : ℕ) (content : Span) (e : f ≡ Ok (record { len = len; kind = kind; class = class; ttl = ttl; content = content })) where
     bounds : (len ≤ 255) × (kind < 65536) × (class < 65536) × (ttl < 4294967296) × (content.size < 65536) × Within m content
     bounds = rw e at q.read.bounds
 
     pub at_within : Within m content
     at_within = bounds.5
 
-    pub at_record : (k : KeyData) → ContentRead m content k → PlaceRead m place k
+    pub at_record : (k : Option Span) → ContentRead m content k → PlaceRead m place k
     at_record k c = record {
       says = λ section.
-          ap (λ x. brought_by (key_by x)) (q.read.says section ∙ ap (λ (x : Found). shownRecord m section x q.out) e)
+          ap (λ x. brought_by (key_by x)) (q.read.says section ∙ ap (λ (x : Result Found ℕ). shownRecord m section x q.out) e)
           ∙ c.says (record { section = section; owner = take len q.out; type = kind; class = class; ttl = ttl; content = cut m content }) refl;
       fits = c.fits;
     }
 
-pub by_once : (m : List ℕ) (k : Kept) (section place : ℕ) → k ≡ Once section place → (f : KeyData) → PlaceRead m place f → KeptRead m k f
+pub by_once : (m : List ℕ) (k : Kept) (section place : ℕ) → k ≡ Once section place → (f : Option Span) → PlaceRead m place f → KeptRead m k f
 by_once m k section place e f r = record { says = simp e (r.says section); fits = r.fits }
 
-pub by_answer : (m : List ℕ) (end : ℕ) (k : Kept) → AnswersRead m end k → (f : KeyData) → KeptRead m k f → AnswerRead m end f
+pub by_answer : (m : List ℕ) (end : ℕ) (k : Kept) → AnswersRead m end k → (f : Option Span) → KeptRead m k f → AnswerRead m end f
 by_answer m end k a f r = record {
   says = λ q response w. ap brought_by (a.says q w.says w.after w.within w.octets) ∙ r.says;
   fits = r.fits;
@@ -195,7 +189,7 @@ by_answer m end k a f r = record {
 
 -- no renewal: no data, whatever the TKEY is; a renewal: what it brings
 module _ (s : Resolver) (r : Record) (t : TkeyAnswer) where
-  none_held : (h : Holding) (asking : Asking) → renews h asking ≡ false → s.holding ≡ h → moved_data asking s r t ≡ none
+  none_held : (h : Holding) (asking : Asking) → renews h asking ≡ false → s.holding ≡ h → moved_data asking s r t ≡ None
   none_held h Asking.Ordinary e f = refl
   none_held Holding.Nothing Asking.Renewal e f = rw f refl
   none_held Holding.Adopted Asking.Renewal e f = absurd (true≢false e)
@@ -215,57 +209,57 @@ module _ (s : Resolver) (r : Record) (t : TkeyAnswer) where
   some_held Holding.AdoptedAndOffered Asking.Adoption e f = absurd (false≢true e)
   some_held Holding.AdoptedAndOffered Asking.Deletion e f = absurd (false≢true e)
 
-either_none : (b : Bool) → cond {A = Option (List ℕ)} b none none ≡ none
+either_none : (b : Bool) → cond {A = Option (List ℕ)} b None None ≡ None
 either_none true = refl
 either_none false = refl
 
 module _ (s : Resolver) (asking : Asking) where
   module _ (e : renews s.holding asking ≡ false) where
-    none_by : (r : Record) (x : Option TkeyAnswer) → answered_data asking s r x ≡ none
-    none_by r none = refl
-    none_by r (some t) =
+    none_by : (r : Record) (x : Option TkeyAnswer) → answered_data asking s r x ≡ None
+    none_by r None = refl
+    none_by r (Some t) =
         let b = is_mode asking t.mode && eqb t.error 0 in
-        ap (λ (y : Option (List ℕ)). cond b y none) (none_held s r t s.holding asking e refl) ∙ either_none b
+        ap (λ (y : Option (List ℕ)). cond b y None) (none_held s r t s.holding asking e refl) ∙ either_none b
 
-    none_data : (x : Option Record) → only_data asking s x ≡ none
-    none_data none = refl
-    none_data (some r) = none_by r (answer_of r)
+    none_data : (x : Option Record) → only_data asking s x ≡ None
+    none_data None = refl
+    none_data (Some r) = none_by r (answer_of r)
 
   module _ (e : renews s.holding asking ≡ true) where
     some_by : (r : Record) (x : Option TkeyAnswer) → answered_data asking s r x ≡ brought r x
-    some_by r none = refl
-    some_by r (some t) = let h = some_held s r t s.holding asking e refl in
-        ap₂ (λ (b : Bool) (y : Option (List ℕ)). cond (b && eqb t.error 0) y none) (ap (λ (a : Asking). is_mode a t.mode) h.0) h.1
+    some_by r None = refl
+    some_by r (Some t) = let h = some_held s r t s.holding asking e refl in
+        ap₂ (λ (b : Bool) (y : Option (List ℕ)). cond (b && eqb t.error 0) y None) (ap (λ (a : Asking). is_mode a t.mode) h.0) h.1
 
     some_data : (x : Option Record) → only_data asking s x ≡ brought_by x
-    some_data none = refl
-    some_data (some r) = some_by r (answer_of r)
+    some_data None = refl
+    some_data (Some r) = some_by r (answer_of r)
 
 module _ (b : Bool) (m : List ℕ) (end : ℕ) (response : Bool) (error : ℕ) where
-  pub no_renewal : b ≡ false → AcceptedRead b m end response error Nothing
+  pub no_renewal : b ≡ false → AcceptedRead b m end response error None
   unfolding accepted_data
   no_renewal h = record {
     says = λ q w t e s asking i.
         let b = q.response && (eqb (rcode_of m) 0 && eqb t.error 0) in
-        ap (λ (y : Option (List ℕ)). cond b y none) (none_data s asking (i ∙ h) (only (of_type tkey_type (answers q.records)))) ∙ either_none b;
+        ap (λ (y : Option (List ℕ)). cond b y None) (none_data s asking (i ∙ h) (only (of_type tkey_type (answers q.records)))) ∙ either_none b;
     fits = tt;
   }
 
-  pub no_reply : response ≡ false → AcceptedRead b m end response error Nothing
+  pub no_reply : response ≡ false → AcceptedRead b m end response error None
   unfolding accepted_data
   no_reply h = record { says = λ q w t e s asking i. rw (w.responds ∙ h) refl; fits = tt }
 
   module _ (h : response ≡ true) (o : ℕ) (here : o ≡ get_or m 3 0) where
-    pub bad_rcode : (o % 16 ≡ 0 → ⊥) → AcceptedRead b m end response error Nothing
+    pub bad_rcode : (o % 16 ≡ 0 → ⊥) → AcceptedRead b m end response error None
     unfolding accepted_data rcode_of
     bad_rcode k = record { says = λ q w t e s asking i. rw (w.responds ∙ h, ← here, ne_eqb (o % 16) 0 k) refl; fits = tt }
 
     module _ (k : o % 16 ≡ 0) where
-      pub bad_tsig : (error ≡ 0 → ⊥) → AcceptedRead b m end response error Nothing
+      pub bad_tsig : (error ≡ 0 → ⊥) → AcceptedRead b m end response error None
       unfolding accepted_data rcode_of
       bad_tsig j = record { says = λ q w t e s asking i. rw (w.responds ∙ h, ← here, eq-eqb (o % 16) 0 k, e, ne_eqb error 0 j) refl; fits = tt }
 
-      pub no_error : b ≡ true → error ≡ 0 → (f : KeyData) → AnswerRead m end f → AcceptedRead b m end response error f
+      pub no_error : b ≡ true → error ≡ 0 → (f : Option Span) → AnswerRead m end f → AcceptedRead b m end response error f
       unfolding accepted_data rcode_of
       no_error g j f a = record {
         says = λ q w t e s asking i.
@@ -275,36 +269,36 @@ module _ (b : Bool) (m : List ℕ) (end : ℕ) (response : Bool) (error : ℕ) w
       }
 
 module _ (b good : Bool) (m : List ℕ) (end : ℕ) (response : Bool) (g : Signer) where
-  pub by_nobody : g ≡ Nobody → SignedRead b good m end response g Nothing
+  pub by_nobody : g ≡ Nobody → SignedRead b good m end response g None
   unfolding no_data
   by_nobody h = record { says = λ q w s asking i. rw h refl; fits = tt }
 
-  pub by_ill : g ≡ IllSigned → SignedRead b good m end response g Nothing
+  pub by_ill : g ≡ IllSigned → SignedRead b good m end response g None
   unfolding no_data
   by_ill h = record { says = λ q w s asking i. rw h refl; fits = tt }
 
   module _ (place : ℕ) (t : TsigFields) (h : g ≡ Key place t) where
-    pub by_verdict : good ≡ false → SignedRead b good m end response g Nothing
+    pub by_verdict : good ≡ false → SignedRead b good m end response g None
     unfolding no_data
     by_verdict v = record { says = λ q w s asking i. rw (h, v) refl; fits = tt }
 
-    pub by_signed : good ≡ true → (f : KeyData) → AcceptedRead b m end response t.error f → SignedRead b good m end response g f
+    pub by_signed : good ≡ true → (f : Option Span) → AcceptedRead b m end response t.error f → SignedRead b good m end response g f
     by_signed v f a = record {
       says = λ q w s asking i. rw (h, v) (a.says q w (tsig_from m (name_standing m place) t) refl s asking i);
       fits = a.fits;
     }
 
-module _ (holding : Holding) (o : OpenRequest) (good : Bool) (m : List ℕ) (end : ℕ) (response : Bool) (g : Signer) where
-  pub lost : o ≡ NoRequest → AwaitedRead holding o good m end response g Nothing
+module _ (holding : Holding) (o : Option OpenRequest) (good : Bool) (m : List ℕ) (end : ℕ) (response : Bool) (g : Signer) where
+  pub lost : o ≡ None → AwaitedRead holding o good m end response g None
   unfolding no_data
   lost h = record { says = λ q w e s i. rw h refl; fits = tt }
 
-  module _ (id : ℕ) (asking : Asking) (h : o ≡ Sent id asking) (x : ℕ) (is : x ≡ u16_at m 0) where
-    pub wrong_id : (x ≡ id → ⊥) → AwaitedRead holding o good m end response g Nothing
+  module _ (id : ℕ) (asking : Asking) (h : o ≡ Some (record { id = id; asking = asking })) (x : ℕ) (is : x ≡ u16_at m 0) where
+    pub wrong_id : (x ≡ id → ⊥) → AwaitedRead holding o good m end response g None
     unfolding no_data
     wrong_id k = record { says = λ q w e s i. rw (h, w.id ∙ sym is, ne_eqb x id k) refl; fits = tt }
 
-    pub right_id : x ≡ id → (b : Bool) → b ≡ renews holding asking → (f : KeyData) → SignedRead b good m end response g f
+    pub right_id : x ≡ id → (b : Bool) → b ≡ renews holding asking → (f : Option Span) → SignedRead b good m end response g f
         → AwaitedRead holding o good m end response g f
     right_id k b j f a = record {
       says = λ q w e s i.
@@ -313,16 +307,13 @@ module _ (holding : Holding) (o : OpenRequest) (good : Bool) (m : List ℕ) (end
       fits = a.fits;
     }
 
-module _ (s : Resolver) (good : Bool) (m : List ℕ) (o : WholeReading) (q : ReadAs m o) where
-  pub bad_size : o ≡ Size → DataRead (granted_data s good m) m Nothing
+module _ (s : Resolver) (good : Bool) (m : List ℕ) (o : Result Contents Unread) (q : ReadAs m o) where
+  pub unread : (u : Unread) → o ≡ Err u → DataRead (granted_data s good m) m None
   unfolding granted_data no_data
-  bad_size e = record { says = rw (subst (ReadAs m) e q) refl; fits = tt }
+  unread Size e = record { says = rw (subst (ReadAs m) e q) refl; fits = tt }
+  unread (Broken place) e = let x : (size_ok m ≡ true) × (read_message m ≡ stops place) = subst (ReadAs m) e q in record { says = rw (x.0, x.1) refl; fits = tt }
 
-  pub ill_formed : (place : ℕ) → o ≡ Broken place → DataRead (granted_data s good m) m Nothing
-  unfolding granted_data no_data
-  ill_formed place e = let x : (size_ok m ≡ true) × (read_message m ≡ stops place) = subst (ReadAs m) e q in record { says = rw (x.0, x.1) refl; fits = tt }
-
-  pub well_formed_lem : (c : Contents) → o ≡ Whole c → (f : KeyData) → AwaitedRead s.holding s.awaited good m c.end c.response c.signer f
+  pub well_formed_lem : (c : Contents) → o ≡ Ok c → (f : Option Span) → AwaitedRead s.holding s.awaited good m c.end c.response c.signer f
       → DataRead (granted_data s good m) m f
   unfolding granted_data
   well_formed_lem c e f a =
@@ -334,5 +325,5 @@ module _ (s : Resolver) (good : Bool) (m : List ℕ) (o : WholeReading) (q : Rea
         fits = a.fits;
       }
 
-pub whole_from : (m : List ℕ) {o : WholeReading} {c : Contents} → ReadAs m o → o ≡ Whole c → 12 ≤ length m
+pub whole_from : (m : List ℕ) {o : Result Contents Unread} {c : Contents} → ReadAs m o → o ≡ Ok c → 12 ≤ length m
 whole_from m {c = c} q e = let x : ContentsRead m c = subst (ReadAs m) e q in omega arith

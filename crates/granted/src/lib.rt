@@ -6,84 +6,64 @@ ghost use Rattle.model.specs.Granted.{granted_data};
 ghost use Rattle.records.specs.Record.{Within};
 ghost use Rattle.granted.specs.Brought.{DataRead, asks_renewal, renews as renewsBy, ContentRead, PlaceRead, KeptRead, AnswerRead, AcceptedRead, SignedRead, AwaitedRead};
 
-use contents::Reading;
 use messages::Kept;
-use model::{Asking, Holding, Named, OpenRequest, Resolver, Span};
+use model::{Asking, Holding, OpenRequest, Resolver, Span};
 use records::Found;
 use tkey::Layout;
 use tsig::Signer;
 
-// The key data of a granted renewal: there is none; or it is a part of the message.
-#[derive(Clone, Copy)]
-pub enum KeyData {
-    Nothing,
-    At(Span),
-}
-
 // ── The TKEY ────────────────────────────────────────────────────────────────────────────────────────────────────────
 
 // The key data of a TKEY whose data is the part `content` of the message m, if it grants a renewal.
-fn data_in(m: &[u8], content: Span) -> KeyData
+fn data_in(m: &[u8], content: Span) -> Option<Span>
     requires { Within m.now content }
     ensures { ContentRead m.now content result }
 {
     let start = content.from;
     let d = records::part_of(m, content);
-    match tkey::layout_of(d) {
-        Layout::Ill => KeyData::Nothing,
-        Layout::Fields {
-            next,
-            count,
-            size: _,
-        } => {
-            if octets::u16_at(d, next + 8) != 4098 {
-                return KeyData::Nothing;
-            }
-            if octets::u16_at(d, next + 10) != 0 {
-                return KeyData::Nothing;
-            }
-            let name = Span {
-                from: start,
-                size: next,
-            };
-            match names::algorithm_named(records::part_of(m, name)) {
-                Named::Unknown => KeyData::Nothing,
-                Named::Known(_) => KeyData::At(Span {
-                    from: start + next + 14,
-                    size: count,
-                }),
-            }
-        }
+    let Layout {
+        next,
+        count,
+        size: _,
+    } = tkey::layout_of(d)?;
+    if octets::u16_at(d, next + 8) != 4098 {
+        return None;
     }
+    if octets::u16_at(d, next + 10) != 0 {
+        return None;
+    }
+    let name = Span {
+        from: start,
+        size: next,
+    };
+    names::algorithm_named(records::part_of(m, name))?;
+    Some(Span {
+        from: start + next + 14,
+        size: count,
+    })
 }
 
-fn data_at(m: &[u8], place: usize) -> KeyData
+fn data_at(m: &[u8], place: usize) -> Option<Span>
     ensures { PlaceRead m.now place result }
 {
-    match records::skip_record(m, place) {
-        Found::Bad(_) => KeyData::Nothing,
-        Found::At {
-            len: _,
-            kind: _,
-            class: _,
-            ttl: _,
-            content,
-        } => data_in(m, content),
-    }
+    let Ok(found) = records::skip_record(m, place) else {
+        return None;
+    };
+    data_in(m, found.content)
 }
 
-fn data_kept(m: &[u8], kept: Kept) -> KeyData
+fn data_kept(m: &[u8], kept: Kept) -> Option<Span>
     ensures { KeptRead m.now kept result }
 {
     match kept {
-        Kept::Never => KeyData::Nothing,
+        Kept::Never => None,
         Kept::Once { section: _, place } => data_at(m, place),
-        Kept::More => KeyData::Nothing,
+        Kept::More => None,
     }
 }
 
 // By the only TKEY of the answer section of the message m, whose questions end at `end`.
-fn data_answered(m: &[u8], end: usize) -> KeyData
+fn data_answered(m: &[u8], end: usize) -> Option<Span>
     requires { 12 ≤ length m.now }
     ensures { AnswerRead m.now end result }
 {
@@ -115,21 +95,21 @@ fn renews(holding: Holding, asking: Asking) -> bool
 }
 
 // A response with no error in its header and in its TSIG, which is `error`.
-fn data_accepted(renewing: bool, m: &[u8], end: usize, response: bool, error: usize) -> KeyData
+fn data_accepted(renewing: bool, m: &[u8], end: usize, response: bool, error: usize) -> Option<Span>
     requires { 12 ≤ length m.now }
     ensures { AcceptedRead renewing m.now end response error result }
 {
     if !renewing {
-        return KeyData::Nothing;
+        return None;
     }
     if !response {
-        return KeyData::Nothing;
+        return None;
     }
     if octets::wide(m[3]) % 16 != 0 {
-        return KeyData::Nothing;
+        return None;
     }
     if error != 0 {
-        return KeyData::Nothing;
+        return None;
     }
     data_answered(m, end)
 }
@@ -142,16 +122,16 @@ fn data_signed(
     end: usize,
     response: bool,
     signer: Signer,
-) -> KeyData
+) -> Option<Span>
     requires { 12 ≤ length m.now }
     ensures { SignedRead renewing good m.now end response signer result }
 {
     match signer {
-        Signer::Nobody => KeyData::Nothing,
-        Signer::Ill => KeyData::Nothing,
+        Signer::Nobody => None,
+        Signer::Ill => None,
         Signer::Key { place: _, fields } => {
             if !good {
-                return KeyData::Nothing;
+                return None;
             }
             data_accepted(renewing, m, end, response, fields.error)
         }
@@ -161,22 +141,22 @@ fn data_signed(
 // LOST, WRONGID, then as above.
 fn data_awaited(
     holding: Holding,
-    awaited: OpenRequest,
+    awaited: Option<OpenRequest>,
     good: bool,
     m: &[u8],
     end: usize,
     response: bool,
     signer: Signer,
-) -> KeyData
+) -> Option<Span>
     requires { 12 ≤ length m.now }
     ensures { AwaitedRead holding awaited good m.now end response signer result }
 {
     match awaited {
-        OpenRequest::Nothing => KeyData::Nothing,
-        OpenRequest::Sent { id, asking } => {
+        None => None,
+        Some(OpenRequest { id, asking }) => {
             let answered = records::id(m) as u16;
             if answered != id {
-                return KeyData::Nothing;
+                return None;
             }
             let renewing = renews(holding, asking);
             data_signed(renewing, good, m, end, response, signer)
@@ -185,17 +165,14 @@ fn data_awaited(
 }
 
 // Where the key data stands that the reply m brings to the resolver s; `good` is the caller's verdict on its MAC and its time.
-pub fn key_data(s: Resolver, good: bool, m: &[u8]) -> KeyData
+pub fn key_data(s: Resolver, good: bool, m: &[u8]) -> Option<Span>
     ensures { DataRead (granted_data s good m.now) m.now result }
 {
-    match contents::read(m) {
-        Reading::Size => KeyData::Nothing,
-        Reading::Broken { place: _ } => KeyData::Nothing,
-        Reading::Whole(c) => {
-            let holding = s.holding;
-            let awaited = s.awaited;
-            let signer = c.signer;
-            data_awaited(holding, awaited, good, m, c.end, c.response, signer)
-        }
-    }
+    let Ok(c) = contents::read(m) else {
+        return None;
+    };
+    let holding = s.holding;
+    let awaited = s.awaited;
+    let signer = c.signer;
+    data_awaited(holding, awaited, good, m, c.end, c.response, signer)
 }

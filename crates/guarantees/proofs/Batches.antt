@@ -1,7 +1,7 @@
 -- Batches in demand 3: where the buffer holds all replies together, the room that is left decides nothing. Assumes nothing.
 use mathlib.Core.Path.{◌≡◌, refl, sym, ap, ap₂, ◌∙◌}
 use mathlib.Core.Bool.{Bool, true, false, not}
-use mathlib.Core.Option.{Option, none, some}
+use Rattle.std.specs.Prelude.{Option, None, Some}
 use mathlib.Core.List.{List, [], ◌∷◌, ◌++◌, map}
 use Prim.Native.Nat.{ℕ, suc, ◌-◌, ◌≤◌}
 use native.Mathlib.Omega.{arith}
@@ -79,19 +79,19 @@ module _ (g : Given) (octets : List ℕ) (room : ℕ) where
 
   served_room : (u : Table) (o : Option ℕ) → length (served_by u (lent 65535) o).outcome.reply ≤ room → served_by u (lent room) o ≡ served_by u (lent 65535) o
   unfolding step_of
-  served_room u none k = ap (λ (x : Step). record { table = u; outcome = x.outcome }) (step_room nobody g room octets k)
-  served_room u (some i) k =
+  served_room u None k = ap (λ (x : Step). record { table = u; outcome = x.outcome }) (step_room nobody g room octets k)
+  served_room u (Some i) k =
       ap (λ (x : Step). record { table = with_pair u i x.pair; outcome = x.outcome })
       (step_room (holder_at u i) g room octets k)
 
   passed_room : (t : Table) (o : Option ℕ) → length (passed t (lent 65535) o).outcome.reply ≤ room → passed t (lent room) o ≡ passed t (lent 65535) o
   unfolding served time_of owner_of
-  passed_room t (some n) k = refl
-  passed_room t none k = served_room (with_clock t g.now) (octets_owner (names_of (with_clock t g.now)) octets) k
+  passed_room t (Some n) k = refl
+  passed_room t None k = served_room (with_clock t g.now) (octets_owner (names_of (with_clock t g.now)) octets) k
 
   called_room : (t : Table) → length (called t (lent 65535)).outcome.reply ≤ room → called t (lent room) ≡ called t (lent 65535)
   unfolding called time_of
-  called_room t k = passed_room t (gate t (some g.now)) k
+  called_room t k = passed_room t (gate t (Some g.now)) k
 
 item_room : (octets : List ℕ) (t : Table) (room : ℕ) (x : BatchItem) → length (called t (item_call octets 65535 x)).outcome.reply ≤ room
     → called t (item_call octets room x) ≡ called t (item_call octets 65535 x)

@@ -1,7 +1,8 @@
 -- Demand 2: over any run from a new table, a loaded or a mended one. Assumes nothing.
 use mathlib.Core.Path.{◌≡◌, refl, sym, ap, ap₂, ◌∙◌, subst}
 use mathlib.Core.Bool.{Bool, true, false}
-use mathlib.Core.Option.{Option, none, some, none-ne-some, some-injective}
+use Rattle.std.specs.Prelude.{Option, None, Some}
+use Rattle.std.proofs.lemmas.Option.{none-some, same_Some}
 use mathlib.Core.Logic.{◌⊎◌, inl, inr}
 use mathlib.Core.List.Memᴰ
 use mathlib.Core.List.{List, [], ◌∷◌, Memᴰ}
@@ -52,7 +53,7 @@ operation_made t (enrol time s lifetime fresh algorithm) r = enrol_made s lifeti
 operation_made t (close time number) r = close_made t time number r
 operation_made t (call c) r = call_made t c r
 
-pub operation_new : (t : Table) (o : Operation) (name : List ℕ) → key_made t o ≡ some name → New t (operated t o).table name
+pub operation_new : (t : Table) (o : Operation) (name : List ℕ) → key_made t o ≡ Some name → New t (operated t o).table name
 unfolding key_made
 operation_new t o name e = new_name_lem t (operated t o).table (suffix_of t o) name e
 
@@ -132,8 +133,8 @@ all_fresh t (o ∷ os) r = go (key_made t o) refl (operation_made t o r) (all_fr
     u = (operated t o).table
 
     go : (made : Option (List ℕ)) → key_made t o ≡ made → Event t u made → (table_rules u ≡ true → AllFresh u (names_made u os)) → AllFresh t (listed made (names_made u os))
-    go none e v f = all_before t u none (names_made u os) v (f v.rules)
-    go (some n) e v f = (was_fresh t u n v.rules (operation_new t o n e), all_before t u (some n) (names_made u os) v (f v.rules))
+    go None e v f = all_before t u None (names_made u os) v (f v.rules)
+    go (Some n) e v f = (was_fresh t u n v.rules (operation_new t o n e), all_before t u (Some n) (names_made u os) v (f v.rules))
 
 all_distinct : (t : Table) (os : List Operation) → table_rules t ≡ true → Distinct (names_made t os)
 unfolding names_made
@@ -144,8 +145,8 @@ all_distinct t (o ∷ os) r = go (key_made t o) refl (operation_made t o r) (all
     u = (operated t o).table
 
     go : (made : Option (List ℕ)) → key_made t o ≡ made → Event t u made → (table_rules u ≡ true → Distinct (names_made u os)) → Distinct (listed made (names_made u os))
-    go none e v f = f v.rules
-    go (some n) e v f = (none_same u n (names_made u os) (is_used t u n v.rules (operation_new t o n e)) (all_fresh u os v.rules), f v.rules)
+    go None e v f = f v.rules
+    go (Some n) e v f = (none_same u n (names_made u os) (is_used t u n v.rules (operation_new t o n e)) (all_fresh u os v.rules), f v.rules)
 
 used_on : (t : Table) (os : List Operation) (n : List ℕ) → table_rules t ≡ true → Used t n → Used (operated_all t os) n
 unfolding operated_all
@@ -161,8 +162,8 @@ all_used t (o ∷ os) r = go (key_made t o) refl (operation_made t o r) (all_use
     u = (operated t o).table
 
     go : (made : Option (List ℕ)) → key_made t o ≡ made → Event t u made → (table_rules u ≡ true → AllUsed (operated_all u os) (names_made u os)) → AllUsed (operated_all u os) (listed made (names_made u os))
-    go none e v f = f v.rules
-    go (some n) e v f = (used_on u os n v.rules (is_used t u n v.rules (operation_new t o n e)), f v.rules)
+    go None e v f = f v.rules
+    go (Some n) e v f = (used_on u os n v.rules (is_used t u n v.rules (operation_new t o n e)), f v.rules)
 
 pub run_rules : (t : Table) (os : List Operation) → table_rules t ≡ true → table_rules (operated_all t os) ≡ true
 unfolding operated_all
@@ -181,17 +182,17 @@ comes t (o ∷ os) r s n x h = go (key_made t o) (operation_made t o r) (λ q. c
     u = (operated t o).table
 
     later : (made : Option (List ℕ)) → Memᴰ (key_name n s) (names_made u os) → Memᴰ (key_name n s) (listed made (names_made u os))
-    later none m = m
-    later (some y) m = Memᴰ.tail m
+    later None m = m
+    later (Some y) m = Memᴰ.tail m
 
-    first : (made : Option (List ℕ)) → made ≡ some (key_name n s) → Memᴰ (key_name n s) (listed made (names_made u os))
-    first none e = absurd (none-ne-some _ e)
-    first (some y) e = Memᴰ.head (sym (some-injective y _ e))
+    first : (made : Option (List ℕ)) → made ≡ Some (key_name n s) → Memᴰ (key_name n s) (listed made (names_made u os))
+    first None e = absurd (none-some _ e)
+    first (Some y) e = Memᴰ.head (sym (same_Some y _ e))
 
     go : (made : Option (List ℕ)) → Event t u made → (table_rules u ≡ true → Held u s n x ⊎ Memᴰ (key_name n s) (names_made u os)) → Held t s n x ⊎ Memᴰ (key_name n s) (listed made (names_made u os))
     go made v f = by_rest (f v.rules)
       where
-        by_origin : Held t s n x ⊎ (made ≡ some (key_name n s)) → Held t s n x ⊎ Memᴰ (key_name n s) (listed made (names_made u os))
+        by_origin : Held t s n x ⊎ (made ≡ Some (key_name n s)) → Held t s n x ⊎ Memᴰ (key_name n s) (listed made (names_made u os))
         by_origin (inl w) = inl w
         by_origin (inr e) = inr (first made e)
 
@@ -241,7 +242,7 @@ starts_rules t (from_mend s ds e) = (mend_sound s t ds e).rules
 -- ── A message call that is done ─────────────────────────────────────────────────────────────────────────────────────
 
 -- The row that a message belongs to, by its TSIG.
-owner_row : (t : Table) (q : Ask) (i : ℕ) (m : Message) (end : ℕ) → size_ok q.octets ≡ true → read_message q.octets ≡ reads m end → owner_of (names_of t) (asks q) ≡ some i → signed_by (names_of t) (signature m.records) ≡ some i
+owner_row : (t : Table) (q : Ask) (i : ℕ) (m : Message) (end : ℕ) → size_ok q.octets ≡ true → read_message q.octets ≡ reads m end → owner_of (names_of t) (asks q) ≡ Some i → signed_by (names_of t) (signature m.records) ≡ Some i
 unfolding owner_of octets_owner
 owner_row t q i m end s r e = rw (s, r) at e
 
@@ -289,7 +290,7 @@ module _ (t : Table) (q : Ask) (i : ℕ) (m : Message) (d : Decision) (x : Decid
       go false e = refl
       go true e = not_refused _ 6 (begins ∙ message_response at q.given q.room q.octets sized offered m x.end x.readings e)
 
-  row_is : signed_by (names_of (with_clock t now)) (signature m.records) ≡ some i
+  row_is : signed_by (names_of (with_clock t now)) (signature m.records) ≡ Some i
   unfolding names_of with_clock
   row_is = owner_row t q i m x.end sized x.readings x.owner
 
@@ -303,7 +304,7 @@ module _ (t : Table) (q : Ask) (i : ℕ) (m : Message) (d : Decision) (x : Decid
     where
       go : (b : Bool) → second_ok (judge (holder_at (with_clock t now) i) q.given m).decision q.given.second ≡ b → b ≡ true
       go true e = refl
-      go false e = not_refused _ 18 (begins ∙ message_keyrec at q.given q.room q.octets sized offered m x.end x.readings query (some i) row_is e)
+      go false e = not_refused _ 18 (begins ∙ message_keyrec at q.given q.room q.octets sized offered m x.end x.readings query (Some i) row_is e)
 
   -- the lent record serves the decision
   pub is_lent : second_ok d q.given.second ≡ true
@@ -315,29 +316,29 @@ module _ (t : Table) (q : Ask) (i : ℕ) (m : Message) (d : Decision) (x : Decid
     where
       go : (b : Bool) → room_for q.room (reply_to (holder_at (with_clock t now) i) q.given m) ≡ b → b ≡ true
       go true e = refl
-      go false e = not_refused _ 7 (begins ∙ message_room at q.given q.room q.octets sized offered m x.end x.readings query (some i) row_is lent e)
+      go false e = not_refused _ 7 (begins ∙ message_room at q.given q.room q.octets sized offered m x.end x.readings query (Some i) row_is lent e)
 
   -- the pair becomes what the decision makes of it, and the reply is the decision's
   pub is_done : called t (asks q) ≡ record { table = with_pair (with_clock t now) i (changed d now (pair_at t i)); outcome = (replied (holder_at t i) q.given (judge (holder_at t i) q.given m) (reply_of (holder_at t i) q.given m d)).outcome }
   unfolding reply_to
   is_done =
       begins
-      ∙ message_done at q.given q.room q.octets sized offered m x.end x.readings query (some i) row_is lent roomy
+      ∙ message_done at q.given q.room q.octets sized offered m x.end x.readings query (Some i) row_is lent roomy
       ∙ ap (λ (h : Holder). record { table = with_pair (with_clock t now) i (changed (judge h q.given m).decision now (held_pair h)); outcome = (replied h q.given (judge h q.given m) (reply_of h q.given m (judge h q.given m).decision)).outcome }) same_held
       ∙ ap₂ (λ (e : Decision) (p : Pair). record { table = with_pair (with_clock t now) i (changed e now p); outcome = (replied (holder_at t i) q.given (judge (holder_at t i) q.given m) (reply_of (holder_at t i) q.given m e)).outcome }) x.decided (held_is t i)
 
 -- ── Renewal and adoption ────────────────────────────────────────────────────────────────────────────────────────────
 
-waits_now : (ks : Keys) (now : ℕ) (new a : Key) → adopted_of ks ≡ some a → waiting_of (renewed_keys ks now new) ≡ some new
+waits_now : (ks : Keys) (now : ℕ) (new a : Key) → adopted_of ks ≡ Some a → waiting_of (renewed_keys ks now new) ≡ Some new
 unfolding renewed_keys
-waits_now Empty now new a e = absurd (none-ne-some a e)
+waits_now Empty now new a e = absurd (none-some a e)
 waits_now (Adopted k) now new a e = refl
 waits_now (Renewing k w) now new a e = refl
 
-pub waiting_is : (ks : Keys) (w : Key) → waiting_of ks ≡ some w → (a : Key) × (ks ≡ Renewing a w)
-waiting_is Empty w e = absurd (none-ne-some w e)
-waiting_is (Adopted a) w e = absurd (none-ne-some w e)
-waiting_is (Renewing a v) w e = (a, ap (Renewing a) (some-injective v w e))
+pub waiting_is : (ks : Keys) (w : Key) → waiting_of ks ≡ Some w → (a : Key) × (ks ≡ Renewing a w)
+waiting_is Empty w e = absurd (none-some w e)
+waiting_is (Adopted a) w e = absurd (none-some w e)
+waiting_is (Renewing a v) w e = (a, ap (Renewing a) (same_Some v w e))
 
 next_more : (p : Pair) (now : ℕ) (scheme : Scheme) (g : Algorithm) → p.next_serial < (changed (Renews scheme g) now p).next_serial
 unfolding changed renewed with_keys
@@ -407,19 +408,19 @@ module _ (t : Table) (q : Ask) (i : ℕ) (m : Message) where
     grant = (rests (Renews scheme g) x).allowed
 
     rules_now : table_rules t ≡ true
-    rules_now = pass_rules t (some moment) x.passes
+    rules_now = pass_rules t (Some moment) x.passes
 
     rules_then : table_rules (called t (asks q)).table ≡ true
     unfolding operated
     rules_then = (operation_made t (call (asks q)) rules_now).rules
 
-    raised_name : key_made t (call (asks q)) ≡ some name
+    raised_name : key_made t (call (asks q)) ≡ Some name
     unfolding key_made suffix_of operated made
     raised_name =
         ap (λ (o : Option ℕ). key_raised t (called t (asks q)).table (suffix_by t o)) x.owner
         ∙ raised t (called t (asks q)).table (suffix_at t i) _ _ (next_at t rules_now i (below (Renews scheme g) x)) (next_then (Renews scheme g) x rules_then) (next_more pair moment scheme g)
 
-    waiting_new : waiting_of (pair_at (called t (asks q)).table i).keys ≡ some new
+    waiting_new : waiting_of (pair_at (called t (asks q)).table i).keys ≡ Some new
     unfolding changed renewed with_keys
     waiting_new = ap (λ (p : Pair). waiting_of p.keys) (pair_then (Renews scheme g) x) ∙ waits_now pair.keys moment new grant.signer grant.is_signer
 

@@ -1,7 +1,8 @@
 -- Gone means gone. Assumes nothing.
 use mathlib.Core.Path.{◌≡◌, refl, sym, ap, ap₂, ◌∙◌, subst}
 use mathlib.Core.Bool.{Bool, true, false, cond, not, ◌&&◌, false≢true}
-use mathlib.Core.Option.{Option, none, some, none-ne-some, some-injective}
+use Rattle.std.specs.Prelude.{Option, None, Some}
+use Rattle.std.proofs.lemmas.Option.{none-some, same_Some}
 use mathlib.Core.Logic.{◌⊎◌, inl, inr}
 use mathlib.Core.List.{List, [], ◌∷◌, ◌++◌, map, Memᴰ, cons≢nil}
 use Prim.Native.Nat.{ℕ, zero, suc, ◌^◌, ◌≤◌, ◌<◌}
@@ -10,8 +11,6 @@ use lib.Dec.{leb, ltb}
 use lib.ListN.{length, get_or, set, take, drop}
 use borrow.Author.Tests.{le-ltb}
 use Rattle.model.specs.declared.Algorithm.{Algorithm}
-use Rattle.model.specs.declared.Named.{Named}
-use Rattle.model.specs.declared.Named.TheVariants.{Known, Unknown}
 use Rattle.model.specs.declared.Key.{Key}
 use Rattle.model.specs.declared.Keys.{Keys}
 use Rattle.model.specs.declared.Keys.TheVariants.{Empty, Adopted, Renewing}
@@ -48,23 +47,23 @@ use Rattle.guarantees.proofs.Freshness.{operation_made, operation_new, run_rules
 
 -- two keys of a pair with one serial are one key
 one_key : (l n c : ℕ) (ks : Keys) (j k : Key) → KeysOk l n c ks → Has ks j → Has ks k → j.serial ≡ k.serial → j ≡ k
-one_key l n c Empty j k o (inl e) f q = absurd (none-ne-some j e)
-one_key l n c Empty j k o (inr e) f q = absurd (none-ne-some j e)
-one_key l n c (Adopted a) j k o (inl e) (inl f) q = some-injective j k (sym e ∙ f)
-one_key l n c (Adopted a) j k o (inl e) (inr f) q = absurd (none-ne-some k f)
-one_key l n c (Adopted a) j k o (inr e) f q = absurd (none-ne-some j e)
-one_key l n c (Renewing a w) j k o (inl e) (inl f) q = some-injective j k (sym e ∙ f)
+one_key l n c Empty j k o (inl e) f q = absurd (none-some j e)
+one_key l n c Empty j k o (inr e) f q = absurd (none-some j e)
+one_key l n c (Adopted a) j k o (inl e) (inl f) q = same_Some j k (sym e ∙ f)
+one_key l n c (Adopted a) j k o (inl e) (inr f) q = absurd (none-some k f)
+one_key l n c (Adopted a) j k o (inr e) f q = absurd (none-some j e)
+one_key l n c (Renewing a w) j k o (inl e) (inl f) q = same_Some j k (sym e ∙ f)
 one_key l n c (Renewing a w) j k o (inl e) (inr f) q =
-    let x : a.serial ≡ j.serial = ap (λ (y : Key). y.serial) (some-injective a j e) in
-    let y : w.serial ≡ k.serial = ap (λ (y : Key). y.serial) (some-injective w k f) in
+    let x : a.serial ≡ j.serial = ap (λ (y : Key). y.serial) (same_Some a j e) in
+    let y : w.serial ≡ k.serial = ap (λ (y : Key). y.serial) (same_Some w k f) in
     let z : a.serial < w.serial = o.2 in
     absurd (omega arith)
 one_key l n c (Renewing a w) j k o (inr e) (inl f) q =
-    let x : w.serial ≡ j.serial = ap (λ (y : Key). y.serial) (some-injective w j e) in
-    let y : a.serial ≡ k.serial = ap (λ (y : Key). y.serial) (some-injective a k f) in
+    let x : w.serial ≡ j.serial = ap (λ (y : Key). y.serial) (same_Some w j e) in
+    let y : a.serial ≡ k.serial = ap (λ (y : Key). y.serial) (same_Some a k f) in
     let z : a.serial < w.serial = o.2 in
     absurd (omega arith)
-one_key l n c (Renewing a w) j k o (inr e) (inr f) q = some-injective j k (sym e ∙ f)
+one_key l n c (Renewing a w) j k o (inr e) (inr f) q = same_Some j k (sym e ∙ f)
 
 -- two rows with one suffix are one row
 one_row : {x y : Row} (rs : List Row) → distinct (map (λ r. r.suffix) rs) ≡ true → Memᴰ x rs → Memᴰ y rs → same_name x.suffix y.suffix ≡ true → x ≡ y
@@ -125,7 +124,7 @@ module _ (t : Table) (o : Operation) (r : table_rules t ≡ true) (s : List ℕ)
   from_before : (x : Row) (k : Key) → Memᴰ x u.rows → same_name x.suffix s ≡ true → Has x.pair.keys k → k.serial ≡ n → Held t x.suffix k.serial k.expiry
   from_before x k m same h e = go (event.origin x.suffix k.serial k.expiry (held u x k m h))
     where
-      go : Held t x.suffix k.serial k.expiry ⊎ (key_made t o ≡ some (key_name k.serial x.suffix)) → Held t x.suffix k.serial k.expiry
+      go : Held t x.suffix k.serial k.expiry ⊎ (key_made t o ≡ Some (key_name k.serial x.suffix)) → Held t x.suffix k.serial k.expiry
       go (inl w) = w
       go (inr q) =
           let w = operation_new t o _ q in
@@ -159,11 +158,11 @@ goes_dead t o s k r g = go g
     was_made : KeyIn t s k → k.serial < next_of t s
     was_made i = subst (λ (z : List ℕ). k.serial < next_of t z) i.suffix_is (given_serial t r i.row k i.there i.has)
 
-    clock_then : (time : ℕ) → operation_time o ≡ some time → gate t (some time) ≡ none → (operated t o).table.clock ≡ time
+    clock_then : (time : ℕ) → operation_time o ≡ Some time → gate t (Some time) ≡ None → (operated t o).table.clock ≡ time
     clock_then time e p =
         (demand1.every_call t o).clock_moves
         ∙ ap (λ (τ : Option ℕ). moved_by (gate t τ) τ t.clock) e
-        ∙ ap (λ (x : Option ℕ). moved_by x (some time) t.clock) p
+        ∙ ap (λ (x : Option ℕ). moved_by x (Some time) t.clock) p
 
     go : Goes t o s k → Dead (operated t o).table s k.serial
     go (lost i none_there) = record { made = made_then t o r s k.serial (was_made i); late = λ x j m same h e. absurd (none_there x j m same h e) }
@@ -186,40 +185,40 @@ dead_run t (o ∷ os) s n r d = dead_run (operated t o).table os s n (operation_
 -- ── A message signed with the name of a dead key ────────────────────────────────────────────────────────────────────
 
 -- The gate refuses with a number.
-gate_refuses : (t : Table) (τ : Option ℕ) (n : ℕ) → gate t τ ≡ some n → ¬ (n ≡ 0)
+gate_refuses : (t : Table) (τ : Option ℕ) (n : ℕ) → gate t τ ≡ Some n → ¬ (n ≡ 0)
 unfolding gate TABLE TIME CLOCK
-gate_refuses t τ n = by_check P some TABLE (λ e z. refusal_is 0 (e ∙ ap some z)) (table_rules t) λ _. by_time τ
+gate_refuses t τ n = by_check P Some TABLE (λ e z. refusal_is 0 (e ∙ ap Some z)) (table_rules t) λ _. by_time τ
   where
     P : Option ℕ → Type 0
-    P x = x ≡ some n → ¬ (n ≡ 0)
+    P x = x ≡ Some n → ¬ (n ≡ 0)
 
-    refusal_is : (k : ℕ) → ¬ (◌≡◌ {A = Option ℕ} (some (suc k)) (some 0))
-    refusal_is k e = let z : suc k ≡ 0 = some-injective (suc k) 0 e in omega (arith, z)
+    refusal_is : (k : ℕ) → ¬ (◌≡◌ {A = Option ℕ} (Some (suc k)) (Some 0))
+    refusal_is k e = let z : suc k ≡ 0 = same_Some (suc k) 0 e in omega (arith, z)
 
     by_time : (τ : Option ℕ) → P (time_gate τ t.clock)
-    by_time none = λ e. absurd (none-ne-some n e)
-    by_time (some time) =
-        by_check P some TIME (λ e z. refusal_is 1 (e ∙ ap some z)) (time_fits time) λ _.
-        by_check P some CLOCK (λ e z. refusal_is 2 (e ∙ ap some z)) (time_goes_on t.clock time) λ _. λ e. absurd (none-ne-some n e)
+    by_time None = λ e. absurd (none-some n e)
+    by_time (Some time) =
+        by_check P Some TIME (λ e z. refusal_is 1 (e ∙ ap Some z)) (time_fits time) λ _.
+        by_check P Some CLOCK (λ e z. refusal_is 2 (e ∙ ap Some z)) (time_goes_on t.clock time) λ _. λ e. absurd (none-some n e)
 
 -- So a call that is done has passed it.
-passed_gate : (t : Table) (τ : Option ℕ) → ((n : ℕ) → gate t τ ≡ some n → n ≡ 0) → gate t τ ≡ none
+passed_gate : (t : Table) (τ : Option ℕ) → ((n : ℕ) → gate t τ ≡ Some n → n ≡ 0) → gate t τ ≡ None
 passed_gate t τ f = go (gate t τ) refl
   where
-    go : (g : Option ℕ) → gate t τ ≡ g → g ≡ none
-    go none e = refl
-    go (some n) e = absurd (gate_refuses t τ n e (f n e))
+    go : (g : Option ℕ) → gate t τ ≡ g → g ≡ None
+    go None e = refl
+    go (Some n) e = absurd (gate_refuses t τ n e (f n e))
 
-key_passes : (test : Key → Bool) (k : Option Key) (a : Key) → key_if test k ≡ some a → (k ≡ some a) × (test a ≡ true)
-key_passes test none a e = absurd (none-ne-some a e)
-key_passes test (some k) a e = go (test k) refl e
+key_passes : (test : Key → Bool) (k : Option Key) (a : Key) → key_if test k ≡ Some a → (k ≡ Some a) × (test a ≡ true)
+key_passes test None a e = absurd (none-some a e)
+key_passes test (Some k) a e = go (test k) refl e
   where
-    go : (b : Bool) → test k ≡ b → cond b (some k) none ≡ some a → (◌≡◌ {A = Option Key} (some k) (some a)) × (test a ≡ true)
-    go true w q = (q, ap test (sym (some-injective k a q)) ∙ w)
-    go false w q = absurd (none-ne-some a q)
+    go : (b : Bool) → test k ≡ b → cond b (Some k) None ≡ Some a → (◌≡◌ {A = Option Key} (Some k) (Some a)) × (test a ≡ true)
+    go true w q = (q, ap test (sym (same_Some k a q)) ∙ w)
+    go false w q = absurd (none-some a q)
 
 -- The key that its TSIG gives, if there is one, is past its expiry.
-signer_late : (t : Table) (s : List ℕ) (n : ℕ) → table_rules t ≡ true → Dead t s n → (x : Tsig) → same_name x.name (key_name n s) ≡ true → (i : ℕ) → i < length t.rows → (a : Key) → signer_of (holder_at t i) x ≡ some a → a.expiry ≤ t.clock
+signer_late : (t : Table) (s : List ℕ) (n : ℕ) → table_rules t ≡ true → Dead t s n → (x : Tsig) → same_name x.name (key_name n s) ≡ true → (i : ℕ) → i < length t.rows → (a : Key) → signer_of (holder_at t i) x ≡ Some a → a.expiry ≤ t.clock
 unfolding signer_of holder_at suffix_at pair_at row_at is_key is_named
 signer_late t s n r d x e i h a q =
     let y : Row = get_or t.rows i no_row in
@@ -239,7 +238,7 @@ unfolding in_time
 late_key a now h = and_false (leb a.inception now) (le-ltb now a.expiry h)
 
 -- So it is refused in step 3, with BADKEY.
-late_refused : (h : Holder) (g : Given) (m : Message) (x : Tsig) → signature m.records ≡ well_placed x → ((a : Key) → signer_of h x ≡ some a → a.expiry ≤ g.now) → (judge h g m).decision ≡ Refused not_auth bad_key
+late_refused : (h : Holder) (g : Given) (m : Message) (x : Tsig) → signature m.records ≡ well_placed x → ((a : Key) → signer_of h x ≡ Some a → a.expiry ≤ g.now) → (judge h g m).decision ≡ Refused not_auth bad_key
 unfolding judge judge_read unknown
 late_refused h g m x e f = rw e (go (signer_of h x) refl)
   where
@@ -247,8 +246,8 @@ late_refused h g m x e f = rw e (go (signer_of h x) refl)
     next a = record { decision = decide (held_suffix h) (held_pair h) a g (contents_of m) x; pair = held_number h; serial = a.serial }
 
     go : (o : Option Key) → signer_of h x ≡ o → (step3 o g.now next).decision ≡ Refused not_auth bad_key
-    go none q = refl
-    go (some a) q = ap (λ (b : Bool). (cond b (next a) (unknown (Refused not_auth bad_key))).decision) (late_key a g.now (f a q))
+    go None q = refl
+    go (Some a) q = ap (λ (b : Bool). (cond b (next a) (unknown (Refused not_auth bad_key))).decision) (late_key a g.now (f a q))
 
 -- Such a message has a reply: a header, at least.
 refused_replies : (h : Holder) (g : Given) (m : Message) (rcode error : ℕ) → (judge h g m).decision ≡ Refused rcode error → ¬ (reply_to h g m ≡ [])
@@ -310,7 +309,7 @@ module _ (t : Table) (s : List ℕ) (n : ℕ) (r : table_rules t ≡ true) (d : 
   -- also nobody's, where its suffix is not enrolled
   badkey_none : (judge nobody q.given m).decision ≡ Refused not_auth bad_key
   unfolding signer_of
-  badkey_none = late_refused nobody q.given m x sign λ a e. absurd (none-ne-some a e)
+  badkey_none = late_refused nobody q.given m x sign λ a e. absurd (none-some a e)
 
   badkey_step : (h : Holder) → (judge h q.given m).decision ≡ Refused not_auth bad_key → ((step_of h (asks q)).pair ≡ held_pair h) × ¬ Silent (step_of h (asks q)).outcome
   unfolding step_of
@@ -318,34 +317,34 @@ module _ (t : Table) (s : List ℕ) (n : ℕ) (r : table_rules t ≡ true) (d : 
 
   not_passed_up : ¬ Silent (called t (asks q)).outcome
   unfolding time_of unchanged refusal refusal_at with_clock
-  not_passed_up = go (gate t (some now)) refl
+  not_passed_up = go (gate t (Some now)) refl
     where
       by_owner : t.clock ≤ now → (o : Option ℕ) → owner_of (names_of at) (asks q) ≡ o → ¬ Silent (served_by at (asks q) o).outcome
-      by_owner h none w = (badkey_step nobody badkey_none).1
-      by_owner h (some i) w = (badkey_step (holder_at at i) (badkey_at h i (owner_enrolled at (asks q) i w))).1
+      by_owner h None w = (badkey_step nobody badkey_none).1
+      by_owner h (Some i) w = (badkey_step (holder_at at i) (badkey_at h i (owner_enrolled at (asks q) i w))).1
 
-      go : (g : Option ℕ) → gate t (some now) ≡ g → ¬ Silent (called t (asks q)).outcome
-      go (some k) e = subst (λ (y : Result). ¬ Silent y.outcome) (sym (refused_first t (asks q) k e)) λ z. gate_refuses t (some now) k e z.0
-      go none e = subst (λ (y : Result). ¬ Silent y.outcome) (sym (passes_first t (asks q) e ∙ served_is at (asks q))) (by_owner (pass_time t (some now) e).0 (owner_of (names_of at) (asks q)) refl)
+      go : (g : Option ℕ) → gate t (Some now) ≡ g → ¬ Silent (called t (asks q)).outcome
+      go (Some k) e = subst (λ (y : Result). ¬ Silent y.outcome) (sym (refused_first t (asks q) k e)) λ z. gate_refuses t (Some now) k e z.0
+      go None e = subst (λ (y : Result). ¬ Silent y.outcome) (sym (passes_first t (asks q) e ∙ served_is at (asks q))) (by_owner (pass_time t (Some now) e).0 (owner_of (names_of at) (asks q)) refl)
 
   step_stays : t.clock ≤ now → (i : ℕ) → i < length t.rows → (step_of (holder_at at i) (asks q)).pair ≡ pair_at at i
   step_stays h i b = (badkey_step (holder_at at i) (badkey_at h i b)).0 ∙ held_is at i
 
   rows_stay : (called t (asks q)).table.rows ≡ t.rows
   unfolding time_of unchanged with_clock
-  rows_stay = go (gate t (some now)) refl
+  rows_stay = go (gate t (Some now)) refl
     where
       by_owner : t.clock ≤ now → (o : Option ℕ) → owner_of (names_of at) (asks q) ≡ o → (served_by at (asks q) o).table.rows ≡ t.rows
-      by_owner h none w = refl
-      by_owner h (some i) w =
+      by_owner h None w = refl
+      by_owner h (Some i) w =
           let b : i < length t.rows = owner_enrolled at (asks q) i w in
           ap (λ (p : Pair). (with_pair at i p).rows) (step_stays h i b) ∙ ap (λ (y : Table). y.rows) (same_row at i)
 
-      go : (g : Option ℕ) → gate t (some now) ≡ g → (called t (asks q)).table.rows ≡ t.rows
-      go (some k) e = ap (λ (y : Result). y.table.rows) (refused_first t (asks q) k e)
-      go none e =
+      go : (g : Option ℕ) → gate t (Some now) ≡ g → (called t (asks q)).table.rows ≡ t.rows
+      go (Some k) e = ap (λ (y : Result). y.table.rows) (refused_first t (asks q) k e)
+      go None e =
           ap (λ (y : Result). y.table.rows) (passes_first t (asks q) e ∙ served_is at (asks q))
-          ∙ by_owner (pass_time t (some now) e).0 (owner_of (names_of at) (asks q)) refl
+          ∙ by_owner (pass_time t (Some now) e).0 (owner_of (names_of at) (asks q)) refl
 
   nothing : Nothing t q
   unfolding DONE
@@ -358,22 +357,22 @@ abbrev Without : Keys → ℕ → Type 0
 Without ks n = (j : Key) → Has ks j → ¬ (j.serial ≡ n)
 
 without_empty : (n : ℕ) → Without Empty n
-without_empty n j (inl e) q = none-ne-some j e
-without_empty n j (inr e) q = none-ne-some j e
+without_empty n j (inl e) q = none-some j e
+without_empty n j (inr e) q = none-some j e
 
 without_adopted : (a : Key) (n : ℕ) → ¬ (a.serial ≡ n) → Without (Adopted a) n
-without_adopted a n f j (inl e) q = f (ap (λ (y : Key). y.serial) (some-injective a j e) ∙ q)
-without_adopted a n f j (inr e) q = none-ne-some j e
+without_adopted a n f j (inl e) q = f (ap (λ (y : Key). y.serial) (same_Some a j e) ∙ q)
+without_adopted a n f j (inr e) q = none-some j e
 
 without_both : (a w : Key) (n : ℕ) → ¬ (a.serial ≡ n) → ¬ (w.serial ≡ n) → Without (Renewing a w) n
-without_both a w n f g j (inl e) q = f (ap (λ (y : Key). y.serial) (some-injective a j e) ∙ q)
-without_both a w n f g j (inr e) q = g (ap (λ (y : Key). y.serial) (some-injective w j e) ∙ q)
+without_both a w n f g j (inl e) q = f (ap (λ (y : Key). y.serial) (same_Some a j e) ∙ q)
+without_both a w n f g j (inr e) q = g (ap (λ (y : Key). y.serial) (same_Some w j e) ∙ q)
 
 issued_without : (p : Pair) (time : ℕ) (g : Algorithm) (n : ℕ) → n < p.next_serial → Without (issued p time g).keys n
 unfolding issued with_keys made
 issued_without p time g n h = without_adopted (made p time g) n (omega arith)
 
-number_enrolled : (t : Table) (time number algorithm i : ℕ) → number_owner (names_of t) number ≡ some i → i < length t.rows
+number_enrolled : (t : Table) (time number algorithm i : ℕ) → number_owner (names_of t) number ≡ Some i → i < length t.rows
 unfolding owner_of
 number_enrolled t time number algorithm i w = owner_enrolled t (issue time number algorithm) i w
 
@@ -398,7 +397,7 @@ module _ (t : Table) (i : ℕ) (k : Key) (r : table_rules t ≡ true) where
     serial_below h = (key_ok _ _ _ was.keys k pair_ok.keys_ok h).below
 
     -- an operation that passes at a time not before its expiry
-    outlives : (q : Ask) → Has was.keys k → gate t (some q.given.now) ≡ none → k.expiry ≤ q.given.now → Goes t (call (asks q)) (suffix_at t i) k
+    outlives : (q : Ask) → Has was.keys k → gate t (Some q.given.now) ≡ None → k.expiry ≤ q.given.now → Goes t (call (asks q)) (suffix_at t i) k
     unfolding operation_time time_of
     outlives q h p e = expired (key_in h) q.given.now refl p e
 
@@ -435,7 +434,7 @@ module _ (t : Table) (i : ℕ) (k : Key) (r : table_rules t ≡ true) where
     unfolding changed deletedPair with_keys
     deletes x h = decided_loses q m Deletes x h (without_empty k.serial)
 
-    withdraws : Decides t q i m Withdraws → waiting_of was.keys ≡ some k → Goes t (call (asks q)) (suffix_at t i) k
+    withdraws : Decides t q i m Withdraws → waiting_of was.keys ≡ Some k → Goes t (call (asks q)) (suffix_at t i) k
     unfolding changed withdrawnPair with_keys withdrawn_keys
     withdraws x h =
         let a = waiting_is was.keys k h in
@@ -443,7 +442,7 @@ module _ (t : Table) (i : ℕ) (k : Key) (r : table_rules t ≡ true) where
         let z : a.0.serial < k.serial = o.2 in
         decided_loses q m Withdraws x (inr h) (subst (λ (ks : Keys). Without (withdrawn_keys ks) k.serial) (sym a.1) (without_adopted a.0 k.serial (omega arith)))
 
-    drops : (scheme : Scheme) (g : Algorithm) → Decides t q i m (Renews scheme g) → waiting_of was.keys ≡ some k → Goes t (call (asks q)) (suffix_at t i) k
+    drops : (scheme : Scheme) (g : Algorithm) → Decides t q i m (Renews scheme g) → waiting_of was.keys ≡ Some k → Goes t (call (asks q)) (suffix_at t i) k
     unfolding changed renewed with_keys renewed_keys revoked_key made
     drops scheme g x h =
         let a = waiting_is was.keys k h in
@@ -453,18 +452,18 @@ module _ (t : Table) (i : ℕ) (k : Key) (r : table_rules t ≡ true) where
         decided_loses q m (Renews scheme g) x (inr h)
         (subst (λ (ks : Keys). Without (renewed_keys ks q.given.now (made was q.given.now g)) k.serial) (sym a.1) (without_both _ _ k.serial (omega arith) (omega arith)))
 
-  module _ (time number algorithm : ℕ) (w : number_owner (names_of t) number ≡ some i) (ends : (called t (issue time number algorithm)).outcome.answer.number ≡ DONE) where
+  module _ (time number algorithm : ℕ) (w : number_owner (names_of t) number ≡ Some i) (ends : (called t (issue time number algorithm)).outcome.answer.number ≡ DONE) where
     abbrev it : Call
     it = issue time number algorithm
 
-    issues_at : gate t (some time) ≡ none
+    issues_at : gate t (Some time) ≡ None
     unfolding time_of unchanged refusal refusal_at DONE
-    issues_at = passed_gate t (some time) λ n q. sym (ap (λ (y : Result). y.outcome.answer.number) (refused_first t it n q)) ∙ ends
+    issues_at = passed_gate t (Some time) λ n q. sym (ap (λ (y : Result). y.outcome.answer.number) (refused_first t it n q)) ∙ ends
 
     abbrev clocked : Table
     clocked = with_clock t time
 
-    w_at : number_owner (names_of clocked) number ≡ some i
+    w_at : number_owner (names_of clocked) number ≡ Some i
     unfolding names_of with_clock
     w_at = w
 
@@ -477,7 +476,7 @@ module _ (t : Table) (i : ℕ) (k : Key) (r : table_rules t ≡ true) where
     unfolding unchanged refusal refusal_at DONE
     not_refused n q = let z : ◌≡◌ {A = ℕ} 0 (suc n) = sym ends ∙ ap (λ (y : Result). y.outcome.answer.number) (begins ∙ q) in absurd (omega arith)
 
-    issued_rows : (g : Algorithm) → ltb (pair_at clocked i).next_serial 0x1_0000_0000 ≡ true → algorithm_numbered algorithm ≡ Known g → (called t it).table.rows ≡ set t.rows i (record { suffix = suffix_at t i; pair = issued was time g })
+    issued_rows : (g : Algorithm) → ltb (pair_at clocked i).next_serial 0x1_0000_0000 ≡ true → algorithm_numbered algorithm ≡ Some g → (called t it).table.rows ≡ set t.rows i (record { suffix = suffix_at t i; pair = issued was time g })
     unfolding with_pair with_clock suffix_at pair_at row_at
     issued_rows g a b = ap (λ (y : Result). y.table.rows) (begins ∙ issue_done clocked time number algorithm i w_at g a b)
 
@@ -488,15 +487,15 @@ module _ (t : Table) (i : ℕ) (k : Key) (r : table_rules t ≡ true) where
         below : i < length t.rows
         below = number_enrolled t time number algorithm i w
 
-        go : (b : Bool) (g : Named) → ltb (pair_at clocked i).next_serial 0x1_0000_0000 ≡ b → algorithm_numbered algorithm ≡ g → Goes t (call it) (suffix_at t i) k
+        go : (b : Bool) (g : Option Algorithm) → ltb (pair_at clocked i).next_serial 0x1_0000_0000 ≡ b → algorithm_numbered algorithm ≡ g → Goes t (call it) (suffix_at t i) k
         go false g a b = not_refused 10 (issue_spent clocked time number algorithm i w_at a)
-        go true Unknown a b = not_refused 12 (issue_term clocked time number algorithm i w_at a b)
-        go true (Known g) a b = loses below it (issued was time g) (issued_rows g a b) h (issued_without was time g k.serial (serial_below below h))
+        go true None a b = not_refused 12 (issue_term clocked time number algorithm i w_at a b)
+        go true (Some g) a b = loses below it (issued was time g) (issued_rows g a b) h (issued_without was time g k.serial (serial_below below h))
 
-  module _ (time number : ℕ) (w : number_owner (names_of t) number ≡ some i) (ends : (operated t (close time number)).outcome.answer.number ≡ DONE) where
-    closes_at : gate t (some time) ≡ none
+  module _ (time number : ℕ) (w : number_owner (names_of t) number ≡ Some i) (ends : (operated t (close time number)).outcome.answer.number ≡ DONE) where
+    closes_at : gate t (Some time) ≡ None
     unfolding operated close_on unchanged refusal refusal_at DONE
-    closes_at = passed_gate t (some time) λ n q. sym (ap (λ (g : Option ℕ). (close_passed t time number g).outcome.answer.number) q) ∙ ends
+    closes_at = passed_gate t (Some time) λ n q. sym (ap (λ (g : Option ℕ). (close_passed t time number g).outcome.answer.number) q) ∙ ends
 
     closed_rows : (operated t (close time number)).table.rows ≡ take i t.rows ++ drop (suc i) t.rows
     unfolding operated close_on closedRow without_row with_clock names_of
@@ -513,8 +512,8 @@ unfolding pair_at row_at no_row no_pair
 has_below t i k h = go t.rows i h
   where
     go : (rs : List Row) (i : ℕ) → Has (get_or rs i no_row).pair.keys k → i < length rs
-    go [] i (inl e) = absurd (none-ne-some k e)
-    go [] i (inr e) = absurd (none-ne-some k e)
+    go [] i (inl e) = absurd (none-some k e)
+    go [] i (inr e) = absurd (none-some k e)
     go (r ∷ rs) zero h = omega arith
     go (r ∷ rs) (suc i) h = let b : i < length rs = go rs i h in omega arith
 

@@ -1,7 +1,8 @@
 -- Demand 1, for every call on every table. Assumes nothing.
 use mathlib.Core.Path.{◌≡◌, refl, sym, ap, subst, ◌∙◌}
 use mathlib.Core.Bool.{Bool, true, false, not, ◌&&◌, ◌||◌, false≢true}
-use mathlib.Core.Option.{Option, none, some, some-injective, none-ne-some}
+use Rattle.std.specs.Prelude.{Option, None, Some}
+use Rattle.std.proofs.lemmas.Option.{same_Some, none-some}
 use mathlib.Core.List.{List, [], ◌∷◌}
 use Prim.Native.Nat.{ℕ, ◌≤◌}
 use native.Mathlib.Omega.{arith}
@@ -41,34 +42,34 @@ or_right false b e = e
 
 -- A number of a call's own list is one of its refusals.
 own_listed : (n : ℕ) (τ : Option ℕ) (own : List ℕ) → is_one n own ≡ true → is_one n (DONE ∷ first_refusals τ own) ≡ true
-own_listed n none own e = or_right (eqb n DONE) _ (or_right (eqb n TABLE) _ e)
-own_listed n (some τ) own e = or_right (eqb n DONE) _ (or_right (eqb n TABLE) _ (or_right (eqb n TIME) _ (or_right (eqb n CLOCK) _ e)))
+own_listed n None own e = or_right (eqb n DONE) _ (or_right (eqb n TABLE) _ e)
+own_listed n (Some τ) own e = or_right (eqb n DONE) _ (or_right (eqb n TABLE) _ (or_right (eqb n TIME) _ (or_right (eqb n CLOCK) _ e)))
 
 -- So is a number of the gate.
-refused_by : (P : ℕ → Type 0) (n : ℕ) (b : Bool) (next : Option ℕ) → P n → ((k : ℕ) → next ≡ some k → P k) → (k : ℕ) → check some n b next ≡ some k → P k
+refused_by : (P : ℕ → Type 0) (n : ℕ) (b : Bool) (next : Option ℕ) → P n → ((k : ℕ) → next ≡ Some k → P k) → (k : ℕ) → check Some n b next ≡ Some k → P k
 refused_by P n true next p f k e = f k e
-refused_by P n false next p f k e = subst P (some-injective n k e) p
+refused_by P n false next p f k e = subst P (same_Some n k e) p
 
-gate_listed : (t : Table) (τ : Option ℕ) (own : List ℕ) (n : ℕ) → gate t τ ≡ some n → is_one n (DONE ∷ first_refusals τ own) ≡ true
+gate_listed : (t : Table) (τ : Option ℕ) (own : List ℕ) (n : ℕ) → gate t τ ≡ Some n → is_one n (DONE ∷ first_refusals τ own) ≡ true
 unfolding gate DONE TABLE TIME CLOCK
-gate_listed t none own n e =
-    refused_by (λ k. is_one k (DONE ∷ TABLE ∷ own) ≡ true) TABLE (table_rules t) none refl (λ k q. absurd (none-ne-some k q)) n e
-gate_listed t (some τ) own n e =
-    refused_by P TABLE (table_rules t) (time_gate (some τ) t.clock) refl
-    (λ k q. refused_by P TIME (time_fits τ) (check some CLOCK (time_goes_on t.clock τ) none) refl
-    (λ k q. refused_by P CLOCK (time_goes_on t.clock τ) none refl (λ k q. absurd (none-ne-some k q)) k q) k q) n e
+gate_listed t None own n e =
+    refused_by (λ k. is_one k (DONE ∷ TABLE ∷ own) ≡ true) TABLE (table_rules t) None refl (λ k q. absurd (none-some k q)) n e
+gate_listed t (Some τ) own n e =
+    refused_by P TABLE (table_rules t) (time_gate (Some τ) t.clock) refl
+    (λ k q. refused_by P TIME (time_fits τ) (check Some CLOCK (time_goes_on t.clock τ) None) refl
+    (λ k q. refused_by P CLOCK (time_goes_on t.clock τ) None refl (λ k q. absurd (none-some k q)) k q) k q) n e
   where
     P : ℕ → Type 0
     P k = is_one k (DONE ∷ TABLE ∷ TIME ∷ CLOCK ∷ own) ≡ true
 
 -- The gate's refusals are the first three.
-first_three : (t : Table) (τ : Option ℕ) (n : ℕ) → gate t τ ≡ some n → n ≤ 3
+first_three : (t : Table) (τ : Option ℕ) (n : ℕ) → gate t τ ≡ Some n → n ≤ 3
 unfolding gate TABLE TIME CLOCK
-first_three t none n e = refused_by (λ k. k ≤ 3) TABLE (table_rules t) none (omega arith) (λ k q. absurd (none-ne-some k q)) n e
-first_three t (some τ) n e =
-    refused_by P TABLE (table_rules t) (time_gate (some τ) t.clock) (omega arith)
-    (λ k q. refused_by P TIME (time_fits τ) (check some CLOCK (time_goes_on t.clock τ) none) (omega arith)
-    (λ k q. refused_by P CLOCK (time_goes_on t.clock τ) none (omega arith) (λ k q. absurd (none-ne-some k q)) k q) k q) n e
+first_three t None n e = refused_by (λ k. k ≤ 3) TABLE (table_rules t) None (omega arith) (λ k q. absurd (none-some k q)) n e
+first_three t (Some τ) n e =
+    refused_by P TABLE (table_rules t) (time_gate (Some τ) t.clock) (omega arith)
+    (λ k q. refused_by P TIME (time_fits τ) (check Some CLOCK (time_goes_on t.clock τ) None) (omega arith)
+    (λ k q. refused_by P CLOCK (time_goes_on t.clock τ) None (omega arith) (λ k q. absurd (none-some k q)) k q) k q) n e
   where
     P : ℕ → Type 0
     P k = k ≤ 3
@@ -81,8 +82,8 @@ same_clock t = refl
 
 clock_only : (t : Table) (τ : Option ℕ) → with_clock t (clock_at t τ).clock ≡ clock_at t τ
 unfolding with_clock
-clock_only t none = refl
-clock_only t (some τ) = refl
+clock_only t None = refl
+clock_only t (Some τ) = refl
 
 -- What the claims say of a result r of the table t.
 module _ (t : Table) (time : Option ℕ) (own : List ℕ) where
@@ -93,7 +94,7 @@ module _ (t : Table) (time : Option ℕ) (own : List ℕ) where
     pub placed_by : ¬ (r.outcome.answer.number ≡ FORMAT) → r.outcome.answer.place ≡ 0
 
   -- refused at the gate
-  refused_first_by : (n : ℕ) → gate t time ≡ some n → SafeBy (unchanged t n)
+  refused_first_by : (n : ℕ) → gate t time ≡ Some n → SafeBy (unchanged t n)
   unfolding unchanged refusal refusal_at
   refused_first_by n e = record {
     listed_by = gate_listed t time own n e;
@@ -102,15 +103,15 @@ module _ (t : Table) (time : Option ℕ) (own : List ℕ) where
     placed_by = λ _. refl;
   }
 
-  clock_then : gate t time ≡ none → (clock_at t time).clock ≡ moved_by (gate t time) time t.clock
+  clock_then : gate t time ≡ None → (clock_at t time).clock ≡ moved_by (gate t time) time t.clock
   clock_then e = clock_at_lem t time ∙ by_time time ∙ sym (ap (λ (g : Option ℕ). moved_by g time t.clock) e)
     where
-      by_time : (τ : Option ℕ) → clock_by τ t.clock ≡ moved_by none τ t.clock
-      by_time none = refl
-      by_time (some τ) = refl
+      by_time : (τ : Option ℕ) → clock_by τ t.clock ≡ moved_by None τ t.clock
+      by_time None = refl
+      by_time (Some τ) = refl
 
   -- refused later
-  refused_later_by : (n place : ℕ) → gate t time ≡ none → is_one n own ≡ true → (¬ (n ≡ FORMAT) → place ≡ 0) → SafeBy (record { table = clock_at t time; outcome = refusal_at n place })
+  refused_later_by : (n place : ℕ) → gate t time ≡ None → is_one n own ≡ true → (¬ (n ≡ FORMAT) → place ≡ 0) → SafeBy (record { table = clock_at t time; outcome = refusal_at n place })
   unfolding refusal_at
   refused_later_by n place e l p = record {
     listed_by = own_listed n time own l;
@@ -129,21 +130,21 @@ module _ (t : Table) (c : Call) where
   abbrev By : Result → Type 0
   By r = SafeBy t (time_of c) (own_refusals c) r
 
-  passed_by : gate t (time_of c) ≡ none → (o : Option ℕ) → owner_of (names_of (clock_at t (time_of c))) c ≡ o → Ends (holder_by (clock_at t (time_of c)) o) c (step_of (holder_by (clock_at t (time_of c)) o) c) → By (called t c)
+  passed_by : gate t (time_of c) ≡ None → (o : Option ℕ) → owner_of (names_of (clock_at t (time_of c))) c ≡ o → Ends (holder_by (clock_at t (time_of c)) o) c (step_of (holder_by (clock_at t (time_of c)) o) c) → By (called t c)
   unfolding unchanged
   passed_by e o w (refused n place l p q) = subst By (sym (passes_first t c e ∙ leaves_it (clock_at t (time_of c)) c o (refusal_at n place) w q)) (refused_later_by t (time_of c) (own_refusals c) n place e l p)
   passed_by e o w (finished z p m) = done_by t (time_of c) (own_refusals c) (called t c) (answers (λ (a : Answer). a.number) o w z) (answers (λ (a : Answer). a.place) o w p) (sets_clock t c e ∙ sym (clock_at_lem t (time_of c)) ∙ clock_then t (time_of c) (own_refusals c) e)
     where
       answers : (f : Answer → ℕ) (o : Option ℕ) → owner_of (names_of (clock_at t (time_of c))) c ≡ o → f (step_of (holder_by (clock_at t (time_of c)) o) c).outcome.answer ≡ 0 → f (called t c).outcome.answer ≡ 0
-      answers f none w z = ap (λ (r : Result). f r.outcome.answer) (passes_first t c e ∙ served_is (clock_at t (time_of c)) c ∙ ap (served_by (clock_at t (time_of c)) c) w) ∙ z
-      answers f (some i) w z = ap (λ (r : Result). f r.outcome.answer) (passes_first t c e ∙ served_is (clock_at t (time_of c)) c ∙ ap (served_by (clock_at t (time_of c)) c) w) ∙ z
+      answers f None w z = ap (λ (r : Result). f r.outcome.answer) (passes_first t c e ∙ served_is (clock_at t (time_of c)) c ∙ ap (served_by (clock_at t (time_of c)) c) w) ∙ z
+      answers f (Some i) w z = ap (λ (r : Result). f r.outcome.answer) (passes_first t c e ∙ served_is (clock_at t (time_of c)) c ∙ ap (served_by (clock_at t (time_of c)) c) w) ∙ z
 
   called_safe : By (called t c)
   called_safe = go (gate t (time_of c)) refl
     where
       go : (g : Option ℕ) → gate t (time_of c) ≡ g → By (called t c)
-      go (some n) e = subst By (sym (refused_first t c n e)) (refused_first_by t (time_of c) (own_refusals c) n e)
-      go none e =
+      go (Some n) e = subst By (sym (refused_first t c n e)) (refused_first_by t (time_of c) (own_refusals c) n e)
+      go None e =
           let o = owner_of (names_of (clock_at t (time_of c))) c in
           passed_by e o refl (ends (holder_by (clock_at t (time_of c)) o) c)
 
@@ -153,9 +154,9 @@ module _ (t : Table) (time : ℕ) (suffix : List ℕ) (lifetime fresh algorithm 
   enrolRefusals = NAME ∷ TERM ∷ TWIN ∷ FULL ∷ SPENT ∷ []
 
   abbrev Enrols : Result → Type 0
-  Enrols r = SafeBy t (some time) enrolRefusals r
+  Enrols r = SafeBy t (Some time) enrolRefusals r
 
-  enrolled_safe : gate t (some time) ≡ none → Enrols (enrolled (with_clock t time) suffix lifetime fresh algorithm)
+  enrolled_safe : gate t (Some time) ≡ None → Enrols (enrolled (with_clock t time) suffix lifetime fresh algorithm)
   unfolding enrolled unchanged refusal with_row done DONE NAME TERM TWIN FULL SPENT
   enrolled_safe e =
       by_check Enrols no NAME (refuse NAME refl) (suffix_ok suffix) λ _.
@@ -164,21 +165,21 @@ module _ (t : Table) (time : ℕ) (suffix : List ℕ) (lifetime fresh algorithm 
       by_check Enrols no TWIN (refuse TWIN refl) (is_none (row_named (names_of (with_clock t time)) suffix)) λ _.
       by_check Enrols no FULL (refuse FULL refl) (ltb (length (with_clock t time).rows) 64) λ _.
       by_check Enrols no SPENT (refuse SPENT refl) (ltb (first_serial (with_clock t time)) 0x1_0000_0000) λ _.
-      done_by t (some time) enrolRefusals _ refl refl (clock_then t (some time) enrolRefusals e)
+      done_by t (Some time) enrolRefusals _ refl refl (clock_then t (Some time) enrolRefusals e)
     where
       no : ℕ → Result
       no n = unchanged (with_clock t time) n
 
       refuse : (n : ℕ) → is_one n enrolRefusals ≡ true → Enrols (no n)
-      refuse n l = refused_later_by t (some time) enrolRefusals n 0 e l (λ _. refl)
+      refuse n l = refused_later_by t (Some time) enrolRefusals n 0 e l (λ _. refl)
 
   enrol_safe : Enrols (enrol_on t time suffix lifetime fresh algorithm)
   unfolding enrol_on
-  enrol_safe = go (gate t (some time)) refl
+  enrol_safe = go (gate t (Some time)) refl
     where
-      go : (g : Option ℕ) → gate t (some time) ≡ g → Enrols (enrol_passed t time suffix lifetime fresh algorithm g)
-      go (some n) e = refused_first_by t (some time) enrolRefusals n e
-      go none e = enrolled_safe e
+      go : (g : Option ℕ) → gate t (Some time) ≡ g → Enrols (enrol_passed t time suffix lifetime fresh algorithm g)
+      go (Some n) e = refused_first_by t (Some time) enrolRefusals n e
+      go None e = enrolled_safe e
 
 -- Closing.
 module _ (t : Table) (time number : ℕ) where
@@ -186,22 +187,22 @@ module _ (t : Table) (time number : ℕ) where
   closeRefusals = NOPAIR ∷ []
 
   abbrev Closes : Result → Type 0
-  Closes r = SafeBy t (some time) closeRefusals r
+  Closes r = SafeBy t (Some time) closeRefusals r
 
-  closed_safe : gate t (some time) ≡ none → Closes (closed (with_clock t time) number)
+  closed_safe : gate t (Some time) ≡ None → Closes (closed (with_clock t time) number)
   unfolding closed unchanged refusal without_row done DONE NOPAIR
   closed_safe e =
-      by_some Closes (unchanged (with_clock t time)) NOPAIR (refused_later_by t (some time) closeRefusals NOPAIR 0 e refl (λ _. refl))
+      by_some Closes (unchanged (with_clock t time)) NOPAIR (refused_later_by t (Some time) closeRefusals NOPAIR 0 e refl (λ _. refl))
       (number_owner (names_of (with_clock t time)) number) λ i _.
-      done_by t (some time) closeRefusals _ refl refl (clock_then t (some time) closeRefusals e)
+      done_by t (Some time) closeRefusals _ refl refl (clock_then t (Some time) closeRefusals e)
 
   close_safe : Closes (close_on t time number)
   unfolding close_on
-  close_safe = go (gate t (some time)) refl
+  close_safe = go (gate t (Some time)) refl
     where
-      go : (g : Option ℕ) → gate t (some time) ≡ g → Closes (close_passed t time number g)
-      go (some n) e = refused_first_by t (some time) closeRefusals n e
-      go none e = closed_safe e
+      go : (g : Option ℕ) → gate t (Some time) ≡ g → Closes (close_passed t time number g)
+      go (Some n) e = refused_first_by t (Some time) closeRefusals n e
+      go None e = closed_safe e
 
 operation_safe : (t : Table) (o : Operation) → Safe t o
 unfolding operated refusals_of operation_time
@@ -235,7 +236,7 @@ step_fits h g room octets =
 
 pub message_fits : (t : Table) (given : Given) (room : ℕ) (octets : List ℕ) → length (called t (message given room octets)).outcome.reply ≤ room
 unfolding unchanged refusal refusal_at step_of time_of
-message_fits t given room octets = go (gate t (some given.now)) refl
+message_fits t given room octets = go (gate t (Some given.now)) refl
   where
     it : Call
     it = message given room octets
@@ -247,12 +248,12 @@ message_fits t given room octets = go (gate t (some given.now)) refl
     F r = length r.outcome.reply ≤ room
 
     served_fits : (o : Option ℕ) → F (served_by at it o)
-    served_fits none = step_fits nobody given room octets
-    served_fits (some i) = step_fits (holder_at at i) given room octets
+    served_fits None = step_fits nobody given room octets
+    served_fits (Some i) = step_fits (holder_at at i) given room octets
 
-    go : (g : Option ℕ) → gate t (some given.now) ≡ g → F (called t it)
-    go (some n) e = subst F (sym (refused_first t it n e)) (omega arith)
-    go none e = subst F (sym (passes_first t it e ∙ served_is at it)) (served_fits (owner_of (names_of at) it))
+    go : (g : Option ℕ) → gate t (Some given.now) ≡ g → F (called t it)
+    go (Some n) e = subst F (sym (refused_first t it n e)) (omega arith)
+    go None e = subst F (sym (passes_first t it e ∙ served_is at it)) (served_fits (owner_of (names_of at) it))
 
 no_reply : (t : Table) (n place : ℕ) (b : List ℕ) → buffer_after (record { table = t; outcome = refusal_at n place }) b ≡ b
 unfolding buffer_after refusal_at put
@@ -295,8 +296,8 @@ module _ (octets : List ℕ) where
 
   found_placed : (n : ℕ) (k : Option Key) → Placed (found n k)
   unfolding done DONE FORMAT
-  found_placed n none = λ e. absurd (omega (arith, e))
-  found_placed n (some k) = λ e. absurd (omega (arith, e))
+  found_placed n None = λ e. absurd (omega (arith, e))
+  found_placed n (Some k) = λ e. absurd (omega (arith, e))
 
   looked_placed : (h : Holder) (s : Signature) → Placed (looked_up h s)
   unfolding done DONE FORMAT
@@ -322,12 +323,12 @@ module _ (octets : List ℕ) where
       at = clock_at t (time_of c)
 
       served_placed : (o : Option ℕ) → F (served_by at c o)
-      served_placed none = f nobody
-      served_placed (some i) = f (holder_at at i)
+      served_placed None = f nobody
+      served_placed (Some i) = f (holder_at at i)
 
       go : (g : Option ℕ) → gate t (time_of c) ≡ g → F (called t c)
-      go (some n) e = subst F (sym (refused_first t c n e)) (λ q. let f : n ≤ 3 = first_three t (time_of c) n e in absurd (omega (arith, q)))
-      go none e = subst F (sym (passes_first t c e ∙ served_is at c)) (served_placed (owner_of (names_of at) c))
+      go (Some n) e = subst F (sym (refused_first t c n e)) (λ q. let f : n ≤ 3 = first_three t (time_of c) n e in absurd (omega (arith, q)))
+      go None e = subst F (sym (passes_first t c e ∙ served_is at c)) (served_placed (owner_of (names_of at) c))
 
 -- ── The lent record ─────────────────────────────────────────────────────────────────────────────────────────────────
 
@@ -379,20 +380,20 @@ module _ (g : Given) (room : ℕ) (octets : List ℕ) where
   unfolding held_pair no_pair
   nobody_renews w =
       let a = subst (Allows g w.asked no_pair) w.decided (allows nobody g w.asked) in
-      none-ne-some a.allowed.signer a.allowed.is_signer
+      none-some a.allowed.signer a.allowed.is_signer
 
   abbrev Found : Table → Result → Type 0
-  Found t r = r.outcome.answer.number ≡ KEYREC → (i : ℕ) × (owner_of (names_of t) (message g room octets) ≡ some i) × WrongRecord (holder_at t i) g octets
+  Found t r = r.outcome.answer.number ≡ KEYREC → (i : ℕ) × (owner_of (names_of t) (message g room octets) ≡ Some i) × WrongRecord (holder_at t i) g octets
 
   served_lent : (t : Table) (o : Option ℕ) → owner_of (names_of t) (message g room octets) ≡ o → Found t (served_by t (message g room octets) o)
   unfolding step_of
-  served_lent t none is = λ e. absurd (nobody_renews (message_lent nobody e))
-  served_lent t (some i) is = λ e. (i, is, message_lent (holder_at t i) e)
+  served_lent t None is = λ e. absurd (nobody_renews (message_lent nobody e))
+  served_lent t (Some i) is = λ e. (i, is, message_lent (holder_at t i) e)
 
   -- the clock is no part of it
   lent_of : (t : Table) → Found t (called t (message g room octets))
   unfolding unchanged refusal refusal_at KEYREC with_clock names_of holder_at suffix_at pair_at row_at time_of
-  lent_of t = go (gate t (some g.now)) refl
+  lent_of t = go (gate t (Some g.now)) refl
     where
       it : Call
       it = message g room octets
@@ -400,9 +401,9 @@ module _ (g : Given) (room : ℕ) (octets : List ℕ) where
       at : Table
       at = with_clock t g.now
 
-      go : (o : Option ℕ) → gate t (some g.now) ≡ o → Found t (called t it)
-      go (some n) e = subst (Found t) (sym (refused_first t it n e)) (λ q. let f : n ≤ 3 = first_three t (some g.now) n e in absurd (omega (arith, q)))
-      go none e = subst (Found t) (sym (passes_first t it e ∙ served_is at it)) (served_lent at (owner_of (names_of at) it) refl)
+      go : (o : Option ℕ) → gate t (Some g.now) ≡ o → Found t (called t it)
+      go (Some n) e = subst (Found t) (sym (refused_first t it n e)) (λ q. let f : n ≤ 3 = first_three t (Some g.now) n e in absurd (omega (arith, q)))
+      go None e = subst (Found t) (sym (passes_first t it e ∙ served_is at it)) (served_lent at (owner_of (names_of at) it) refl)
 
 pub demand1 : Demand1
 unfolding new_table message_on look_on step_of buffer_after

@@ -1,7 +1,6 @@
 -- Demand 2: over any run from a new table, or from one that was loaded or mended, no name is made twice, a granted renewal's name is new, an adoption puts the
 -- new key in and the old one out in one step, and the table rules are kept. Assumes nothing.
-use Rattle.std.specs.Prelude.{◌≡◌, ◌⊎◌, Bool, true, false, ℕ, ◌%◌}
-use Rattle.std.proofs.Math.Option.{none, some}
+use Rattle.std.specs.Prelude.{◌≡◌, ◌⊎◌, Bool, true, false, ℕ, ◌%◌, None, Some}
 use mathlib.Core.List.{List, ◌++◌, Memᴰ}
 use Rattle.model.specs.declared.Algorithm.{Algorithm}
 use Rattle.model.specs.declared.Key.{Key}
@@ -54,9 +53,9 @@ asks q = message q.given q.room q.octets
 -- The call is done, of the pair in row i: it read the message m and decided d.
 pub record Decides (t : Table) (q : Ask) (i : ℕ) (m : Message) (d : Decision) : Type 0 where
   pub end : ℕ
-  pub passes : gate t (some q.given.now) ≡ none
+  pub passes : gate t (Some q.given.now) ≡ None
   pub readings : read_message q.octets ≡ reads m end
-  pub owner : owner_of (names_of t) (asks q) ≡ some i
+  pub owner : owner_of (names_of t) (asks q) ≡ Some i
   pub decided : (judge (holder_at t i) q.given m).decision ≡ d
   pub finished : (called t (asks q)).outcome.answer.number ≡ 0
 
@@ -71,20 +70,20 @@ pub record Granted (t : Table) (q : Ask) (i : ℕ) (m : Message) (scheme : Schem
   -- the request's TKEY, of the scheme's mode, its KEY record, which fits, the offer, which the scheme needs or not, and the lent record, where it lends one
   pub tkey : Tkey
   pub key_record : Record
-  pub is_tkey_lem : only_tkey m ≡ some tkey
+  pub is_tkey_lem : only_tkey m ≡ Some tkey
   pub is_mode_lem : mode_of tkey.mode ≡ Renewal scheme
-  pub is_key_lem : only_key m ≡ some key_record
+  pub is_key_lem : only_key m ≡ Some key_record
   pub is_fit : fit_serves scheme q.given.fits ≡ true
   pub offered : offer_serves scheme q.given.offer ≡ true
   pub is_lent : second_ok (Renews scheme g) q.given.second ≡ true
   -- what becomes of the pair is the same whatever the scheme (02, CR 10: "What happens to the keys is proved once over the three modes")
   pub pair_is : pair_at (called t (asks q)).table i ≡ renewed (pair_at t i) q.given.now g
   -- the new key, made now, waits
-  pub waiting : waiting_of (pair_at (called t (asks q)).table i).keys ≡ some (made (pair_at t i) q.given.now g)
+  pub waiting : waiting_of (pair_at (called t (asks q)).table i).keys ≡ Some (made (pair_at t i) q.given.now g)
   -- its name is the one that the call made
   pub name : List ℕ
   pub is_name : name ≡ key_name (made (pair_at t i) q.given.now g).serial (suffix_at t i)
-  pub is_made : key_made t (call (asks q)) ≡ some name
+  pub is_made : key_made t (call (asks q)) ≡ Some name
   -- the reply hands out this name, the new key's times and the scheme's key data
   pub says :
       (called t (asks q)).outcome.reply

@@ -1,6 +1,5 @@
 -- What is promised of listing, loading and mending: 02, CR 7. Assumes nothing.
-use Rattle.std.specs.Prelude.{◌≡◌, Bool, true, not, List, [], ◌∷◌, ◌++◌, ℕ, suc, ◌≤◌, ◌<◌, eqb, length}
-use Rattle.std.proofs.Math.Option.{none, some}
+use Rattle.std.specs.Prelude.{◌≡◌, Bool, true, not, List, [], ◌∷◌, ◌++◌, ℕ, suc, ◌≤◌, ◌<◌, eqb, length, None, Some}
 use Rattle.model.specs.Tables.{Row, Table, every, names_of, table_rules}
 use Rattle.model.specs.Calls.{LINE}
 use Rattle.model.specs.Listing.{listing}
@@ -38,21 +37,21 @@ pub record Demand7 : Type 0 where
       (c : Clocked) (kept : List Row) (e : Entry) (r : Row)
       → table_rules (table_with c kept) ≡ true
       → judged c.clock kept e ≡ keeps r
-      → (e ≡ says r.suffix (some r.pair)) × (table_rules (table_with c (kept ++ (r ∷ []))) ≡ true)
-  pub keeps_all : (c : Clocked) (kept : List Row) (r : Row) → table_rules (table_with c (kept ++ (r ∷ []))) ≡ true → judged c.clock kept (says r.suffix (some r.pair)) ≡ keeps r
+      → (e ≡ says r.suffix (Some r.pair)) × (table_rules (table_with c (kept ++ (r ∷ []))) ≡ true)
+  pub keeps_all : (c : Clocked) (kept : List Row) (r : Row) → table_rules (table_with c (kept ++ (r ∷ []))) ≡ true → judged c.clock kept (says r.suffix (Some r.pair)) ≡ keeps r
   -- "And names each dropped line": where these are struck out, the lines of the table's listing are left
   pub names_dropped : (s : List ℕ) (t : Table) (ds : List Dropped) → mend s ≡ mended t ds → lines_left ds 1 (lines_of s) ≡ lines_of (listing t)
   -- each with one of the four reasons
   pub four_reasons : (s : List ℕ) (t : Table) (ds : List Dropped) → mend s ≡ mended t ds → every (λ d. is_reason d.reason) ds ≡ true
   -- 18 is one reason in both: every line of the text reads exactly where mending drops none with 18
-  pub reads_other : (s : List ℕ) (t : Table) (ds : List Dropped) → mend s ≡ mended t ds → first_unread (lines_of s) ≡ none → every other_reason ds ≡ true
-  pub other_reads : (s : List ℕ) (t : Table) (ds : List Dropped) → mend s ≡ mended t ds → every other_reason ds ≡ true → first_unread (lines_of s) ≡ none
+  pub reads_other : (s : List ℕ) (t : Table) (ds : List Dropped) → mend s ≡ mended t ds → first_unread (lines_of s) ≡ None → every other_reason ds ≡ true
+  pub other_reads : (s : List ℕ) (t : Table) (ds : List Dropped) → mend s ≡ mended t ds → every other_reason ds ≡ true → first_unread (lines_of s) ≡ None
   -- a listing that loads is one of which mending drops nothing
   pub mend_whole : (s : List ℕ) (t : Table) → load s ≡ loaded t → mend s ≡ mended t []
   pub whole_loads : (s : List ℕ) (t : Table) → mend s ≡ mended t [] → load s ≡ loaded t
   -- mending is done where line 1 reads and keeps its rules, with its clock and floor, whatever stands below
   pub mend_read :
-      (s l : List ℕ) (ls : List (List ℕ)) (c : Clocked) → lines_of s ≡ l ∷ ls → read_clock l ≡ some c → clocked_rule c ≡ true
+      (s l : List ℕ) (ls : List (List ℕ)) (c : Clocked) → lines_of s ≡ l ∷ ls → read_clock l ≡ Some c → clocked_rule c ≡ true
       → (t : Table) × (ds : List Dropped) × (mend s ≡ mended t ds) × (t.clock ≡ c.clock) × (t.floor ≡ c.floor)
   -- dropped lines are named in order, none twice
   pub in_order : (s : List ℕ) (t : Table) (ds : List Dropped) → mend s ≡ mended t ds → Rising 2 ds

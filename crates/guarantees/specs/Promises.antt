@@ -1,8 +1,7 @@
 -- What is promised to the user, in one place. The proof is `promises` of proofs/Promises. What ties it to code are the contracts of the calls on a lent table
 -- (operator, looking, server, batches, listing, loading): each is an equation with one of these definitions, on the table that the lent words and octets show. Assumes
 -- nothing.
-use Rattle.std.specs.Prelude.{◌≡◌, true, List, [], ◌∷◌, ◌++◌, map, ℕ}
-use Rattle.std.proofs.Math.Option.{none, some}
+use Rattle.std.specs.Prelude.{◌≡◌, true, List, [], ◌∷◌, ◌++◌, map, ℕ, None, Some}
 use Rattle.model.specs.declared.Algorithm.TheVariants.{Sha256}
 use Rattle.model.specs.declared.Scheme.{Scheme}
 use Rattle.model.specs.declared.Scheme.TheVariants.{DiffieHellman, ServerAssignment, ResolverAssignment}
@@ -88,7 +87,7 @@ pub record Promises : Type 0 where
   -- at the same time, an unsigned query of no pair, TIME.
   pub sample_times : NeverBack calls
   pub sample_numbers : numbers (log table calls) ≡ 3 ∷ 0 ∷ 0 ∷ 9 ∷ 0 ∷ 0 ∷ 2 ∷ []
-  pub sample_owners : map (belongs (frame_of table)) calls ≡ some 0 ∷ some 0 ∷ some 0 ∷ none ∷ some 1 ∷ none ∷ some 1 ∷ []
+  pub sample_owners : map (belongs (frame_of table)) calls ≡ Some 0 ∷ Some 0 ∷ Some 0 ∷ None ∷ Some 1 ∷ None ∷ Some 1 ∷ []
   -- nor is the claim on gone keys
   pub sample_gone : EachWay
   -- nor is the claim on granted renewals: one of each scheme (02, CR 10)

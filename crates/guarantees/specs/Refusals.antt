@@ -1,7 +1,6 @@
 -- Demand 1: each call ends with an answer or a refusal from the numbered list; a refusal writes no octet of the reply and changes no pair, and the clock
 -- moves exactly when the call passed TABLE, TIME and CLOCK. Assumes nothing.
-use Rattle.std.specs.Prelude.{◌≡◌, Bool, true, false, ◌||◌, List, [], ◌∷◌, ℕ, eqb, length}
-use Rattle.std.proofs.Math.Option.{Option, none, some}
+use Rattle.std.specs.Prelude.{◌≡◌, Bool, true, false, ◌||◌, List, [], ◌∷◌, ℕ, eqb, length, Option, None, Some}
 use Rattle.model.specs.declared.Algorithm.{Algorithm}
 use Rattle.model.specs.declared.Scheme.TheVariants.{DiffieHellman}
 use Rattle.model.specs.declared.Decision.TheVariants.{Renews}
@@ -27,24 +26,24 @@ own_refusals (look octets) = SIZE ∷ FORMAT ∷ NOTQUERY ∷ []
 own_refusals (message g room octets) = SIZE ∷ OFFER ∷ FORMAT ∷ NOTQUERY ∷ KEYREC ∷ ROOM ∷ []
 
 abbrev pub first_refusals : Option ℕ → List ℕ → List ℕ
-first_refusals none own = TABLE ∷ own
-first_refusals (some time) own = TABLE ∷ TIME ∷ CLOCK ∷ own
+first_refusals None own = TABLE ∷ own
+first_refusals (Some time) own = TABLE ∷ TIME ∷ CLOCK ∷ own
 
 unfoldable pub refusals_of : Operation → List ℕ
-refusals_of (enrol time suffix lifetime fresh algorithm) = first_refusals (some time) (NAME ∷ TERM ∷ TWIN ∷ FULL ∷ SPENT ∷ [])
-refusals_of (close time number) = first_refusals (some time) (NOPAIR ∷ [])
+refusals_of (enrol time suffix lifetime fresh algorithm) = first_refusals (Some time) (NAME ∷ TERM ∷ TWIN ∷ FULL ∷ SPENT ∷ [])
+refusals_of (close time number) = first_refusals (Some time) (NOPAIR ∷ [])
 refusals_of (call c) = first_refusals (time_of c) (own_refusals c)
 
 unfoldable pub operation_time : Operation → Option ℕ
-operation_time (enrol time suffix lifetime fresh algorithm) = some time
-operation_time (close time number) = some time
+operation_time (enrol time suffix lifetime fresh algorithm) = Some time
+operation_time (close time number) = Some time
 operation_time (call c) = time_of c
 
 -- The clock after a call: its time, if it has one and nothing refused it at the gate.
 abbrev pub moved_by : Option ℕ → Option ℕ → ℕ → ℕ
-moved_by (some refused) time clock = clock
-moved_by none none clock = clock
-moved_by none (some time) clock = time
+moved_by (Some refused) time clock = clock
+moved_by None None clock = clock
+moved_by None (Some time) clock = time
 
 -- Enrolment, closing, issue, revoke early, look or message, on any table.
 pub record Safe (t : Table) (o : Operation) : Type 0 where
@@ -95,4 +94,4 @@ pub record Demand1 : Type 0 where
   pub keyrec_for :
       (t : Table) (g : Given) (octets : List ℕ) (room : ℕ)
       → (message_on t g room octets).outcome.answer.number ≡ KEYREC
-      → (i : ℕ) × (owner_of (names_of t) (message g room octets) ≡ some i) × WrongRecord (holder_at t i) g octets
+      → (i : ℕ) × (owner_of (names_of t) (message g room octets) ≡ Some i) × WrongRecord (holder_at t i) g octets

@@ -2,12 +2,12 @@
 use Prim.Native.Nat.{ℕ, ◌+◌, ◌-◌, ◌≤◌, ◌<◌, ◌^◌}
 use mathlib.Core.Path.{◌≡◌, refl, sym, ap, ◌∙◌}
 use mathlib.Core.Bool.{Bool, true, false, ◌&&◌}
-use mathlib.Core.Option.{none, some}
-use mathlib.Core.List.{List, [], ◌∷◌, ◌++◌, append-nil}
+use Rattle.std.specs.Prelude.{None, Some}
+use mathlib.Core.List.{List, ◌++◌, append-nil}
 use native.Mathlib.Omega.{arith}
 use lib.Dec.{leb, ltb}
-use lib.ListN.{length, length-map, length-drop, length-append, get_or, take, drop, drop_of_length-le}
-use lib.Seq.{drop-nil, take_all, length-take-le}
+use lib.ListN.{length, length-map, length-append, take, drop_of_length-le}
+use lib.Seq.{length-take-le}
 use borrow.Author.Tests.{leb-true, ltb-true, le-leb, lt-leb, eq-eqb, ne_eqb}
 use Rattle.model.specs.declared.Keys.{Keys}
 use Rattle.model.specs.declared.Keys.TheVariants.{Empty, Adopted, Renewing}
@@ -32,11 +32,11 @@ names_count : (t : Table) → length (names_of t) ≡ length t.rows
 unfolding names_of
 names_count t = length-map t.rows (λ r. r.suffix)
 
-pub row_low : (t : Table) (name : List ℕ) (i : ℕ) → row_named (names_of t) name ≡ some i → i < length t.rows
+pub row_low : (t : Table) (name : List ℕ) (i : ℕ) → row_named (names_of t) name ≡ Some i → i < length t.rows
 row_low t name i e = omega (arith, row_below (names_of t) name i e, names_count t)
 
 module _ (t : Table) (pair : ℕ) (b : Bool) (is : b ≡ (leb 1 pair && leb pair (length t.rows))) where
-  pub no_row : b ≡ false → number_owner (names_of t) pair ≡ none
+  pub no_row : b ≡ false → number_owner (names_of t) pair ≡ None
   no_row e = number_none (names_of t) pair (rw (names_count t) (sym is ∙ e))
 
   module _ (e : b ≡ true) where
@@ -46,7 +46,7 @@ module _ (t : Table) (pair : ℕ) (b : Bool) (is : b ≡ (leb 1 pair && leb pair
     at_most : pair ≤ length t.rows
     at_most = leb-true _ _ (right (leb 1 pair) (leb pair (length t.rows)) (sym is ∙ e))
 
-    pub its_row : number_owner (names_of t) pair ≡ some (pair - 1)
+    pub its_row : number_owner (names_of t) pair ≡ Some (pair - 1)
     its_row = number_some (names_of t) pair (pair - 1) (omega (arith, above_nought)) (omega (arith, at_most, names_count t))
 
     pub row_in : pair - 1 < length t.rows
@@ -98,7 +98,7 @@ module _ (t : Table) (b : Bool) (is : b ≡ table_rules t) where
       key_passes w = rw (sym is ∙ e, sym w-is ∙ w) refl
 
     module _ (pair : ℕ) where
-      module _ (n : number_owner (names_of t) pair ≡ none) where
+      module _ (n : number_owner (names_of t) pair ≡ None) where
         pub shown_nopair : pair_shown t pair ≡ unshown 9
         unfolding pair_shown NOPAIR
         shown_nopair = rw (sym is ∙ e, n) refl
@@ -107,7 +107,7 @@ module _ (t : Table) (b : Bool) (is : b ≡ table_rules t) where
         unfolding key_name_of NOPAIR
         spelt_nopair serial room = rw (sym is ∙ e, n) refl
 
-      module _ (i : ℕ) (n : number_owner (names_of t) pair ≡ some i) where
+      module _ (i : ℕ) (n : number_owner (names_of t) pair ≡ Some i) where
         pub shown_done : {p : Pair} → p ≡ pair_at t i → pair_shown t pair ≡ record { number = 0; pair = p }
         unfolding pair_shown shown_in DONE
         shown_done p-is = rw (sym is ∙ e, n, p-is) refl
@@ -119,32 +119,13 @@ module _ (t : Table) (b : Bool) (is : b ≡ table_rules t) where
 -- ── A pair by a name ────────────────────────────────────────────────────────────────────────────────────────────────
 
 module _ (t : Table) (name : List ℕ) where
-  pub named_none : row_named (names_of t) name ≡ none → pair_named t name ≡ unfound 9
+  pub named_none : row_named (names_of t) name ≡ None → pair_named t name ≡ unfound 9
   unfolding pair_named NOPAIR
   named_none e = rw e refl
 
-  pub named_row : (i : ℕ) → row_named (names_of t) name ≡ some i → pair_named t name ≡ record { number = 0; pair = i + 1 }
+  pub named_row : (i : ℕ) → row_named (names_of t) name ≡ Some i → pair_named t name ≡ record { number = 0; pair = i + 1 }
   unfolding pair_named found_in DONE
   named_row i e = rw e refl
-
--- what follows a first label
-module _ (name : List ℕ) where
-  pub after_none : length name ≡ 0 → name ≡ after_label name
-  unfolding after_label
-  after_none e = go name e
-    where
-      go : (s : List ℕ) → length s ≡ 0 → s ≡ drop (get_or s 0 0 + 1) s
-      go [] e = sym (drop-nil (get_or {A = ℕ} [] 0 0 + 1))
-      go (x ∷ s) e = absurd (omega arith)
-
-  module _ (w : ℕ) (is : w ≡ get_or name 0 0) where
-    pub after_all : length name < w + 1 → [] ≡ after_label name
-    unfolding after_label
-    after_all h = sym (drop_of_length-le name {i = get_or name 0 0 + 1} (omega (arith, is)))
-
-    pub after_rest : take (length name - (w + 1)) (drop (w + 1) name) ≡ after_label name
-    unfolding after_label
-    after_rest = take_all (length name - (w + 1)) (drop (w + 1) name) (rw (length-drop (w + 1) name) (omega arith)) ∙ ap (λ (w : ℕ). drop (w + 1) name) is
 
 -- ── A key's name ────────────────────────────────────────────────────────────────────────────────────────────────────
 

@@ -4,15 +4,16 @@
 // changes nothing. The contracts are equations with the crate model's Inquiries, on the table that the lent words and octets show.
 #![tactic(auto)]
 
-ghost use Rattle.std.specs.Prelude.{true, cond, ◌≡◌, ◌<◌, ◌≤◌, ◌^◌, max, eqb, ◌++◌, length, take};
-ghost use Rattle.model.specs.Names.{key_name, after_label};
+ghost use Rattle.std.specs.Prelude.{true, cond, ◌≡◌, ◌<◌, ◌≤◌, ◌^◌, eqb, ◌++◌, length, take};
+ghost use Rattle.model.specs.Names.{key_name};
 ghost use Rattle.model.specs.Tables.{table_rules};
 ghost use Rattle.model.specs.Inquiries.{tested, unfound, pair_named, pair_suffixed, pair_of_key, below_next, spelt_in, key_name_in, key_name_of, unshown, pair_shown, adopted_serial, waiting_serial, unless, moves_of};
 ghost use Rattle.store.specs.Layout.{keys_at, pair_words, layout_rule, table_of};
+ghost use Rattle.outcomes.specs.Gate.{number_of};
 ghost use Rattle.inquiries.specs.Inquired.{PairTold, Spells};
 
 use model::{FoundPair, Keys, Moves, Pair, ShownPair};
-use searching::Found;
+use outcomes::Refusal;
 
 // What an inquiry that writes octets returns: its number, and how many it wrote.
 #[derive(Clone, Copy)]
@@ -27,18 +28,22 @@ pub struct Spelling {
 pub fn test(words: &[u64], suffixes: &[u8]) -> u64
     ensures { result ≡ tested (table_of words.now suffixes.now) }
 {
-    if !ruling::rules_ok(words, suffixes) {
-        return 1;
+    if ruling::rules_ok(words, suffixes) {
+        return 0;
     }
-    0
+    Refusal::Table.number()
 }
 
 // ── A pair by a name ────────────────────────────────────────────────────────────────────────────────────────────────
 
-fn not_found(number: u64) -> FoundPair
-    ensures { result ≡ unfound number }
+#[tactic(auto, unfolding(model::specs::Inquiries::unfound))]
+fn not_found(refusal: Refusal) -> FoundPair
+    ensures { result ≡ unfound (number_of refusal) }
 {
-    FoundPair { number, pair: 0 }
+    FoundPair {
+        number: refusal.number(),
+        pair: 0,
+    }
 }
 
 // NOPAIR, or the pair with this suffix.
@@ -47,11 +52,11 @@ fn find_pair(words: &[u64], suffixes: &[u8], name: &[u8]) -> FoundPair
     ensures { result ≡ pair_named (table_of words.now suffixes.now) name.now }
 {
     match searching::find(words, suffixes, name) {
-        Found::Row(row) => FoundPair {
+        Ok(row) => FoundPair {
             number: 0,
             pair: row as u64 + 1,
         },
-        Found::Missing(_) => not_found(9),
+        Err(_) => not_found(Refusal::NoPair),
     }
 }
 
@@ -60,23 +65,9 @@ pub fn pair_of_suffix(words: &[u64], suffixes: &[u8], suffix: &[u8]) -> FoundPai
     ensures { result ≡ pair_suffixed (table_of words.now suffixes.now) suffix.now }
 {
     if !ruling::rules_ok(words, suffixes) {
-        return not_found(1);
+        return not_found(Refusal::Table);
     }
     find_pair(words, suffixes, suffix)
-}
-
-// What follows the first label of a name; nothing where the label takes all octets, or more.
-fn after_label(name: &[u8]) -> &[u8]
-    ensures { result.now ≡ after_label name.now }
-{
-    if name.len() == 0 {
-        return name;
-    }
-    let n = octets::wide(name[0]) + 1;
-    if name.len() < n {
-        return &name[..0];
-    }
-    &name[n..]
 }
 
 // The pair whose suffix follows the first label of this name, whether or not such a key exists. Refused, in this order, with TABLE (1), NAME (12), NOPAIR (9).
@@ -84,21 +75,22 @@ pub fn pair_of_key(words: &[u64], suffixes: &[u8], name: &[u8]) -> FoundPair
     ensures { result ≡ pair_of_key (table_of words.now suffixes.now) name.now }
 {
     if !ruling::rules_ok(words, suffixes) {
-        return not_found(1);
+        return not_found(Refusal::Table);
     }
     if !names::wire_name(name) {
-        return not_found(12);
+        return not_found(Refusal::Name);
     }
-    find_pair(words, suffixes, after_label(name))
+    find_pair(words, suffixes, searching::after_label(name))
 }
 
 // ── A pair by its number ────────────────────────────────────────────────────────────────────────────────────────────
 
-fn not_shown(number: u64) -> ShownPair
-    ensures { result ≡ unshown number }
+#[tactic(auto, unfolding(model::specs::Inquiries::unshown, model::specs::Tables::no_pair))]
+fn not_shown(refusal: Refusal) -> ShownPair
+    ensures { result ≡ unshown (number_of refusal) }
 {
     ShownPair {
-        number,
+        number: refusal.number(),
         pair: Pair {
             lifetime: 0,
             fresh: 0,
@@ -113,10 +105,10 @@ pub fn show_pair(words: &[u64], suffixes: &[u8], pair: u64) -> ShownPair
     ensures { result ≡ pair_shown (table_of words.now suffixes.now) pair }
 {
     if !ruling::rules_ok(words, suffixes) {
-        return not_shown(1);
+        return not_shown(Refusal::Table);
     }
     if !outcomes::is_enrolled(words, suffixes, pair) {
-        return not_shown(9);
+        return not_shown(Refusal::NoPair);
     }
     let p = outcomes::pair_of(words, suffixes, pair as usize - 1);
     ShownPair { number: 0, pair: p }
@@ -127,11 +119,10 @@ fn pair_into(w: &mut [u64], p: Pair)
     requires { length w.old ≡ 14 }
     ensures { w.new ≡ pair_words p }
 {
-    let keys = p.keys;
     let a = store::word_into(w, 0, p.lifetime);
     let b = store::word_into(w, a, p.fresh);
     let c = store::word_into(w, b, p.next_serial);
-    store::keys_into(w, c, keys);
+    store::keys_into(w, c, p.keys);
 }
 
 // The pair of this number as fourteen words: lifetime, fresh period, next serial, and its keys as in the layout of a store. Refused as above, with zeros.
@@ -140,32 +131,25 @@ pub fn pair_words(words: &[u64], suffixes: &[u8], pair: u64, shown: &mut [u64; 1
 {
     *shown = [0u64; 14];
     let s = show_pair(words, suffixes, pair);
-    let p = s.pair;
-    pair_into(&mut shown[..], p);
+    pair_into(&mut shown[..], s.pair);
     s.number
 }
 
 // ── A pair before and after a call ──────────────────────────────────────────────────────────────────────────────────
 
 // The serials of the keys in a pair's fourteen words; 0 where there is no such key.
+#[tactic(auto, unfolding(model::specs::Inquiries::adopted_serial, store::specs::Layout::keys_at, store::specs::Layout::key_at))]
 fn adopted_serial(w: &[u64; 14]) -> u64
     ensures { result ≡ adopted_serial (keys_at w.now 3) }
 {
-    match w[3] {
-        0 => 0,
-        1 => w[4],
-        _ => w[4],
-    }
+    if w[3] == 0 { 0 } else { w[4] }
 }
 
+#[tactic(auto, unfolding(model::specs::Inquiries::waiting_serial, store::specs::Layout::keys_at, store::specs::Layout::key_at))]
 fn waiting_serial(w: &[u64; 14]) -> u64
     ensures { result ≡ waiting_serial (keys_at w.now 3) }
 {
-    match w[3] {
-        0 => 0,
-        1 => 0,
-        _ => w[9],
-    }
+    if w[3] < 2 { 0 } else { w[9] }
 }
 
 // A serial, but 0 where it is among the keys in these words.
@@ -181,22 +165,10 @@ fn unless_among(w: &[u64; 14], serial: u64) -> u64
     serial
 }
 
-fn newer(x: u64, y: u64) -> u64
-    ensures { result ≡ max x y }
-{
-    if x < y {
-        return y;
-    }
-    x
-}
-
 fn if_same(x: u64, y: u64) -> u64
     ensures { result ≡ cond (eqb x y) x 0 }
 {
-    if x == y {
-        return x;
-    }
-    0
+    if x == y { x } else { 0 }
 }
 
 // What a call did to a pair's keys, from the pair's fourteen words before it and after it.
@@ -207,24 +179,23 @@ pub fn moves(before: &[u64; 14], after: &[u64; 14]) -> Moves
     let waiting = waiting_serial(after);
     let former = adopted_serial(before);
     let offered = waiting_serial(before);
-    let made = newer(unless_among(before, adopted), unless_among(before, waiting));
-    let taken = if_same(offered, adopted);
-    let ended = unless_among(after, former);
-    let dropped = unless_among(after, offered);
     Moves {
-        made,
-        adopted: taken,
-        ended,
-        dropped,
+        made: unless_among(before, adopted).max(unless_among(before, waiting)),
+        adopted: if_same(offered, adopted),
+        ended: unless_among(after, former),
+        dropped: unless_among(after, offered),
     }
 }
 
 // ── A key's name ────────────────────────────────────────────────────────────────────────────────────────────────────
 
-fn not_spelt(number: u64) -> Spelling
-    ensures { result ≡ record { number = number; length = 0 } }
+fn not_spelt(refusal: Refusal) -> Spelling
+    ensures { result ≡ record { number = number_of refusal; length = 0 } }
 {
-    Spelling { number, length: 0 }
+    Spelling {
+        number: refusal.number(),
+        length: 0,
+    }
 }
 
 fn below_next(p: Pair, serial: u64) -> bool
@@ -238,12 +209,10 @@ fn join(out: &mut [u8], label: &[u8; 11], n: usize, suffix: &[u8]) -> Spelling
     requires { (n ≤ 11) × (length suffix.now ≤ 128) }
     ensures { Spells (spelt_in (length out.old) (take n label.now ++ suffix.now)) out.old out.new result }
 {
-    let all = &label[..];
-    let head = &all[0..n];
     if out.len() < n + suffix.len() {
-        return not_spelt(8);
+        return not_spelt(Refusal::Room);
     }
-    let next = octets::all_into(out, 0, head);
+    let next = octets::all_into(out, 0, &label[..n]);
     let end = octets::all_into(out, next, suffix);
     Spelling {
         number: 0,
@@ -267,7 +236,7 @@ fn key_name_in(words: &[u64], suffixes: &[u8], row: usize, serial: u64, out: &mu
     ensures { Spells (key_name_in (table_of words.now suffixes.now) serial (length out.old) row) out.old out.new result }
 {
     if !below_next(outcomes::pair_of(words, suffixes, row), serial) {
-        return not_spelt(10);
+        return not_spelt(Refusal::NoKey);
     }
     spell(out, serial, outcomes::suffix_of(words, suffixes, row))
 }
@@ -278,10 +247,10 @@ pub fn key_name(words: &[u64], suffixes: &[u8], pair: u64, serial: u64, out: &mu
     ensures { Spells (key_name_of (table_of words.now suffixes.now) pair serial (length out.old)) out.old out.new result }
 {
     if !ruling::rules_ok(words, suffixes) {
-        return not_spelt(1);
+        return not_spelt(Refusal::Table);
     }
     if !outcomes::is_enrolled(words, suffixes, pair) {
-        return not_spelt(9);
+        return not_spelt(Refusal::NoPair);
     }
     key_name_in(words, suffixes, pair as usize - 1, serial, out)
 }

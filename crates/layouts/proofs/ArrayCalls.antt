@@ -1,26 +1,24 @@
 -- The calls of the layout before are the definition's on the table that it shows. Assumes nothing.
-use mathlib.Core.Path.{◌≡◌, refl, sym, ap, ap₂, subst, ◌∙◌}
+use mathlib.Core.Path.{◌≡◌, refl, sym, ap, ap₂, ◌∙◌}
 use mathlib.Core.Bool.{Bool, true, false, cond, ◌&&◌}
-use mathlib.Core.Option.{Option, none, some}
+use Rattle.std.specs.Prelude.{Option, None, Some}
 use mathlib.Core.List.{List, [], ◌∷◌, ◌++◌, append-nil, append_assoc, map}
 use Prim.Native.Nat.{ℕ, ◌+◌, ◌-◌, ◌*◌, ◌≤◌, ◌<◌}
 use native.Mathlib.Omega.{arith}
 use lib.Dec.{leb, ltb}
-use lib.ListN.{length, get_or, length-set}
+use lib.ListN.{length, length-set}
 use borrow.Author.Tests.{ltb-true, leb-true}
 use Rattle.model.specs.declared.Algorithm.{Algorithm}
-use Rattle.model.specs.declared.Named.{Named}
-use Rattle.model.specs.declared.Named.TheVariants.{Known, Unknown}
 use Rattle.model.specs.declared.Pair.{Pair}
 use Rattle.model.specs.Octets.{Reading, stops, reads}
 use Rattle.model.specs.Names.{algorithm_numbered}
 use Rattle.model.specs.Messages.{Message, read_message}
 use Rattle.model.specs.Tsig.{Signature, unsigned, misplaced, well_placed, signature}
 use Rattle.model.specs.Pairs.{issued}
-use Rattle.model.specs.Tables.{Row, Table, every, no_pair, row_at, suffix_at, pair_at, with_pair, names_of, row_named, is_none, suffix_ok, term_ok, table_rules}
+use Rattle.model.specs.Tables.{Row, Table, every, suffix_at, pair_at, with_pair, names_of, row_named, is_none, suffix_ok, term_ok, table_rules}
 use Rattle.model.specs.Checks.{check, check_some, check_known}
 use Rattle.model.specs.Judging.{Holder, holder}
-use Rattle.model.specs.Calls.{TABLE, TIME, time_fits, empty_table, new_table, NOPAIR, SPENT, NAME, TERM, TWIN, FULL, Outcome, Result, refusal, done, unchanged, gate, clock_at, with_row, first_serial, fresh_pair, enrolled, enrol_passed, enrol_on, without_row, closed, close_passed, close_on, size_ok, Call, issue, revoke, look, message, time_of, signed_by, read_by, octets_owner, number_owner, owner_of, step_of, holder_at, served_by, served, passed, called}
+use Rattle.model.specs.Calls.{TABLE, TIME, time_fits, empty_table, new_table, NOPAIR, SPENT, NAME, TERM, TWIN, FULL, Outcome, Result, done, unchanged, gate, with_row, first_serial, fresh_pair, enrolled, enrol_passed, enrol_on, without_row, closed, close_passed, close_on, size_ok, Call, issue, revoke, look, message, time_of, signed_by, read_by, octets_owner, number_owner, owner_of, step_of, holder_at, served_by, served, passed, called}
 use Rattle.model.specs.declared.BatchItem.{BatchItem}
 use Rattle.model.specs.Runs.{Operation, enrol, close, call, operated}
 use Rattle.model.specs.Batches.{BATCH, batch_ok, item_call, Batched, refused_whole, behind, in_turn, batch_on}
@@ -36,7 +34,7 @@ use Rattle.model.proofs.Tests.{left, right}
 use Rattle.guarantees.proofs.OneCall.{served_is, pass_rules}
 use Rattle.guarantees.proofs.Made.{owner_enrolled}
 use Rattle.layouts.specs.Runs.{Act, new, load, mend, on, batch, Ended, single, load_outcome, mend_outcome, acted, Does, Ran}
-use Rattle.layouts.specs.Array.{Array, Sized, suffix_in, row_in, rows_in, view_of, row_of, put_clock, put_pair, put_row, put_out, signed_in, read_in, octets_in, number_in, owner_in, holder_in, refused_in, served_in, called_in, enrolled_in, enrol_in, closed_in, close_in, new_in, operated_in, refused_all, turn_in, put_rows, put_table, loaded_in, mended_in, acted_in, run_in}
+use Rattle.layouts.specs.Array.{Array, Sized, row_in, rows_in, view_of, row_of, put_clock, put_pair, put_row, put_out, signed_in, read_in, octets_in, number_in, owner_in, holder_in, refused_in, served_in, called_in, enrolled_in, enrol_in, closed_in, close_in, new_in, operated_in, refused_all, turn_in, put_rows, put_table, loaded_in, mended_in, acted_in, run_in}
 use Rattle.layouts.proofs.ArrayLaws.{view_at, view_count, view_clock, view_put, view_row, closed_length, view_out, search_same, names_count}
 
 -- What an operation leaves, as it is shown.
@@ -57,11 +55,11 @@ module _ (a : Array) where
 
   octets_same : (m : List ℕ) → octets_in a m ≡ octets_owner (names_of (view_of a)) m
   unfolding octets_in octets_owner
-  octets_same m = ap (λ (o : Option ℕ). cond (size_ok m) o none) (read_same (read_message m))
+  octets_same m = ap (λ (o : Option ℕ). cond (size_ok m) o None) (read_same (read_message m))
 
   number_same : (number : ℕ) → number_in a number ≡ number_owner (names_of (view_of a)) number
   unfolding number_in number_owner
-  number_same number = ap (λ (n : ℕ). cond (leb 1 number && leb number n) (some (number - 1)) none) (sym (names_count a))
+  number_same number = ap (λ (n : ℕ). cond (leb 1 number && leb number n) (Some (number - 1)) None) (sym (names_count a))
 
   owner_same : (c : Call) → owner_in a c ≡ owner_of (names_of (view_of a)) c
   unfolding owner_in owner_of
@@ -78,8 +76,8 @@ module _ (a : Array) where
 
   module _ (z : Sized a) (room : a.count ≤ 64) (c : Call) where
     served_same : (o : Option ℕ) → owner_of (names_of (view_of a)) c ≡ o → served_by (view_of a) c o ≡ result (served_in a c o)
-    served_same none e = refl
-    served_same (some i) e =
+    served_same None e = refl
+    served_same (Some i) e =
         let h : i < length (view_of a).rows = owner_enrolled (view_of a) c i e in
         let n : length (view_of a).rows ≡ a.count = view_count a in
         ap {B = Result} (λ (x : Holder). record { table = with_pair (view_of a) i (step_of x c).pair; outcome = (step_of x c).outcome }) (sym (holder_same i (omega arith)))
@@ -88,16 +86,16 @@ module _ (a : Array) where
 -- Another clock changes nothing else.
 sized_clock : (a : Array) (time : Option ℕ) → Sized a → Sized (put_clock a time)
 unfolding put_clock
-sized_clock a none z = z
-sized_clock a (some time) z = record { octets = z.octets; sizes = z.sizes; slots = z.slots }
+sized_clock a None z = z
+sized_clock a (Some time) z = record { octets = z.octets; sizes = z.sizes; slots = z.slots }
 
 count_clock : (a : Array) (time : Option ℕ) → (put_clock a time).count ≡ a.count
 unfolding put_clock
-count_clock a none = refl
-count_clock a (some time) = refl
+count_clock a None = refl
+count_clock a (Some time) = refl
 
 -- A table that passes the gate has at most 64 rows.
-rows_few : (a : Array) (time : Option ℕ) → gate (view_of a) time ≡ none → (put_clock a time).count ≤ 64
+rows_few : (a : Array) (time : Option ℕ) → gate (view_of a) time ≡ None → (put_clock a time).count ≤ 64
 rows_few a time e =
     let n : length (view_of a).rows ≤ 64 = few (view_of a) (pass_rules (view_of a) time e) in
     let m : length (view_of a).rows ≡ a.count = view_count a in
@@ -107,8 +105,8 @@ rows_few a time e =
 module _ (a : Array) (z : Sized a) where
   called_same : (c : Call) (g : Option ℕ) → gate (view_of a) (time_of c) ≡ g → passed (view_of a) c g ≡ result (called_in a c g)
   unfolding unchanged
-  called_same c (some n) e = refl
-  called_same c none e =
+  called_same c (Some n) e = refl
+  called_same c None e =
       let b = put_clock a (time_of c) in
       ap (λ (t : Table). served t c) (sym (view_clock a (time_of c)))
       ∙ served_is (view_of b) c
@@ -126,10 +124,10 @@ module _ (a : Array) where
       go true f = f refl
       go false f = refl
 
-  known_same : (n : ℕ) (g : Named) (x : Algorithm → Result) (y : Algorithm → Array × Outcome) → ((h : Algorithm) → x h ≡ result (y h)) → check_known (unchanged (view_of a)) n g x ≡ result (check_known (refused_in a) n g y)
+  known_same : (n : ℕ) (g : Option Algorithm) (x : Algorithm → Result) (y : Algorithm → Array × Outcome) → ((h : Algorithm) → x h ≡ result (y h)) → check_known (unchanged (view_of a)) n g x ≡ result (check_known (refused_in a) n g y)
   unfolding unchanged
-  known_same n (Known h) x y f = f h
-  known_same n Unknown x y f = refl
+  known_same n (Some h) x y f = f h
+  known_same n None x y f = refl
 
 module _ (a : Array) (z : Sized a) (suffix : List ℕ) (lifetime fresh algorithm : ℕ) where
   short : suffix_ok suffix ≡ true → length suffix ≤ 128
@@ -157,7 +155,7 @@ module _ (a : Array) (z : Sized a) (suffix : List ℕ) (lifetime fresh algorithm
 -- ── Closing ─────────────────────────────────────────────────────────────────────────────────────────────────────────
 
 -- a pair's number is that of a row
-number_enrolled : (a : Array) (number i : ℕ) → number_in a number ≡ some i → i < a.count
+number_enrolled : (a : Array) (number i : ℕ) → number_in a number ≡ Some i → i < a.count
 unfolding owner_of
 number_enrolled a number i e =
     let h : i < length (view_of a).rows = owner_enrolled (view_of a) (revoke 0 number) i (sym (number_same a number) ∙ e) in
@@ -169,8 +167,8 @@ unfolding closed closed_in unchanged
 closed_same a z room number = ap (λ (o : Option ℕ). check_some (unchanged (view_of a)) NOPAIR o (λ i. record { table = without_row (view_of a) i; outcome = done 0 0 })) (sym (number_same a number)) ∙ go (number_in a number) refl
   where
     go : (o : Option ℕ) → number_in a number ≡ o → check_some (unchanged (view_of a)) NOPAIR o (λ i. record { table = without_row (view_of a) i; outcome = done 0 0 }) ≡ result (check_some (refused_in a) NOPAIR o (λ i. (put_out a i, done 0 0)))
-    go none e = refl
-    go (some i) e = ap {B = Result} (λ (t : Table). record { table = t; outcome = done 0 0 }) (sym (view_out a i z room (number_enrolled a number i e)))
+    go None e = refl
+    go (Some i) e = ap {B = Result} (λ (t : Table). record { table = t; outcome = done 0 0 }) (sym (view_out a i z room (number_enrolled a number i e)))
 
 -- ── Every operation, and what it leaves of the arrays ───────────────────────────────────────────────────────────────
 
@@ -179,22 +177,22 @@ module _ (a : Array) (z : Sized a) where
       (time : ℕ) (suffix : List ℕ) (lifetime fresh algorithm : ℕ) (g : Option ℕ)
       → enrol_passed (view_of a) time suffix lifetime fresh algorithm g ≡ result (enrol_in a time suffix lifetime fresh algorithm g)
   unfolding unchanged
-  enrol_same time suffix lifetime fresh algorithm (some n) = refl
-  enrol_same time suffix lifetime fresh algorithm none =
-      ap (λ (t : Table). enrolled t suffix lifetime fresh algorithm) (sym (view_clock a (some time)))
-      ∙ enrolled_same (put_clock a (some time)) (sized_clock a (some time) z) suffix lifetime fresh algorithm
+  enrol_same time suffix lifetime fresh algorithm (Some n) = refl
+  enrol_same time suffix lifetime fresh algorithm None =
+      ap (λ (t : Table). enrolled t suffix lifetime fresh algorithm) (sym (view_clock a (Some time)))
+      ∙ enrolled_same (put_clock a (Some time)) (sized_clock a (Some time) z) suffix lifetime fresh algorithm
 
-  close_same : (time number : ℕ) (g : Option ℕ) → gate (view_of a) (some time) ≡ g → close_passed (view_of a) time number g ≡ result (close_in a time number g)
+  close_same : (time number : ℕ) (g : Option ℕ) → gate (view_of a) (Some time) ≡ g → close_passed (view_of a) time number g ≡ result (close_in a time number g)
   unfolding unchanged
-  close_same time number (some n) e = refl
-  close_same time number none e =
-      ap (λ (t : Table). closed t number) (sym (view_clock a (some time)))
-      ∙ closed_same (put_clock a (some time)) (sized_clock a (some time) z) (rows_few a (some time) e) number
+  close_same time number (Some n) e = refl
+  close_same time number None e =
+      ap (λ (t : Table). closed t number) (sym (view_clock a (Some time)))
+      ∙ closed_same (put_clock a (Some time)) (sized_clock a (Some time) z) (rows_few a (Some time) e) number
 
   operates : (o : Operation) → operated (view_of a) o ≡ result (operated_in a o)
   unfolding operated operated_in enrol_on close_on called
-  operates (enrol time suffix lifetime fresh algorithm) = enrol_same time suffix lifetime fresh algorithm (gate (view_of a) (some time))
-  operates (close time number) = close_same time number (gate (view_of a) (some time)) refl
+  operates (enrol time suffix lifetime fresh algorithm) = enrol_same time suffix lifetime fresh algorithm (gate (view_of a) (Some time))
+  operates (close time number) = close_same time number (gate (view_of a) (Some time)) refl
   operates (call c) = called_same a z c (gate (view_of a) (time_of c)) refl
 
   news : (time : ℕ) → new_table (view_of a) time ≡ result (new_in a time)
@@ -216,12 +214,12 @@ sized_row a suffix p h n z =
     }
 
 sized_served : (a : Array) (c : Call) (o : Option ℕ) → Sized a → Sized (served_in a c o).0
-sized_served a c none z = z
-sized_served a c (some i) z = sized_pair a i _ z
+sized_served a c None z = z
+sized_served a c (Some i) z = sized_pair a i _ z
 
 sized_called : (a : Array) (c : Call) (g : Option ℕ) → Sized a → Sized (called_in a c g).0
-sized_called a c (some n) z = z
-sized_called a c none z = sized_served (put_clock a (time_of c)) c (owner_in (put_clock a (time_of c)) c) (sized_clock a (time_of c) z)
+sized_called a c (Some n) z = z
+sized_called a c None z = sized_served (put_clock a (time_of c)) c (owner_in (put_clock a (time_of c)) c) (sized_clock a (time_of c) z)
 
 -- what a chain of checks leaves, where its end is sized
 module _ (a : Array) (z : Sized a) where
@@ -229,9 +227,9 @@ module _ (a : Array) (z : Sized a) where
   checked n true y f = f refl
   checked n false y f = z
 
-  known : (n : ℕ) (g : Named) (y : Algorithm → Array × Outcome) → ((h : Algorithm) → Sized (y h).0) → Sized (check_known (refused_in a) n g y).0
-  known n (Known h) y f = f h
-  known n Unknown y f = z
+  known : (n : ℕ) (g : Option Algorithm) (y : Algorithm → Array × Outcome) → ((h : Algorithm) → Sized (y h).0) → Sized (check_known (refused_in a) n g y).0
+  known n (Some h) y f = f h
+  known n None y f = z
 
   sized_enrolled : (suffix : List ℕ) (lifetime fresh algorithm : ℕ) → Sized (enrolled_in a suffix lifetime fresh algorithm).0
   unfolding enrolled_in
@@ -245,8 +243,8 @@ module _ (a : Array) (z : Sized a) where
       sized_row a suffix _ (ltb-true a.count 64 room) (short a z suffix lifetime fresh algorithm ok) z
 
 sized_enrol : (a : Array) (time : ℕ) (suffix : List ℕ) (lifetime fresh algorithm : ℕ) (g : Option ℕ) → Sized a → Sized (enrol_in a time suffix lifetime fresh algorithm g).0
-sized_enrol a time suffix lifetime fresh algorithm (some n) z = z
-sized_enrol a time suffix lifetime fresh algorithm none z = sized_enrolled (put_clock a (some time)) (sized_clock a (some time) z) suffix lifetime fresh algorithm
+sized_enrol a time suffix lifetime fresh algorithm (Some n) z = z
+sized_enrol a time suffix lifetime fresh algorithm None z = sized_enrolled (put_clock a (Some time)) (sized_clock a (Some time) z) suffix lifetime fresh algorithm
 
 sized_out : (a : Array) (i : ℕ) → i < 64 → Sized a → Sized (put_out a i)
 unfolding put_out
@@ -262,17 +260,17 @@ unfolding closed_in
 sized_closed a number few z = go (number_in a number) refl
   where
     go : (o : Option ℕ) → number_in a number ≡ o → Sized (check_some (refused_in a) NOPAIR o (λ i. (put_out a i, done 0 0))).0
-    go none e = z
-    go (some i) e = sized_out a i (omega (arith, number_enrolled a number i e)) z
+    go None e = z
+    go (Some i) e = sized_out a i (omega (arith, number_enrolled a number i e)) z
 
-sized_close : (a : Array) (time number : ℕ) (g : Option ℕ) → gate (view_of a) (some time) ≡ g → Sized a → Sized (close_in a time number g).0
-sized_close a time number (some n) e z = z
-sized_close a time number none e z = sized_closed (put_clock a (some time)) number (rows_few a (some time) e) (sized_clock a (some time) z)
+sized_close : (a : Array) (time number : ℕ) (g : Option ℕ) → gate (view_of a) (Some time) ≡ g → Sized a → Sized (close_in a time number g).0
+sized_close a time number (Some n) e z = z
+sized_close a time number None e z = sized_closed (put_clock a (Some time)) number (rows_few a (Some time) e) (sized_clock a (Some time) z)
 
 sized_after : (a : Array) (o : Operation) → Sized a → Sized (operated_in a o).0
 unfolding operated_in
-sized_after a (enrol time suffix lifetime fresh algorithm) z = sized_enrol a time suffix lifetime fresh algorithm (gate (view_of a) (some time)) z
-sized_after a (close time number) z = sized_close a time number (gate (view_of a) (some time)) refl z
+sized_after a (enrol time suffix lifetime fresh algorithm) z = sized_enrol a time suffix lifetime fresh algorithm (gate (view_of a) (Some time)) z
+sized_after a (close time number) z = sized_close a time number (gate (view_of a) (Some time)) refl z
 sized_after a (call c) z = sized_called a c (gate (view_of a) (time_of c)) z
 
 sized_new : (a : Array) (time : ℕ) → Sized a → Sized (new_in a time).0

@@ -1,13 +1,13 @@
 -- What the layout before shows: a row, a row that is stored, a row more, and the search; and that its calls are the definition's. Assumes nothing.
 use mathlib.Core.Path.{◌≡◌, refl, sym, ap, ap₂, ◌∙◌}
-use mathlib.Core.Bool.{Bool, true, false, cond, ◌&&◌}
-use mathlib.Core.Option.{Option, none, some}
+use mathlib.Core.Bool.{Bool, true, false, cond}
+use Rattle.std.specs.Prelude.{Option, None, Some}
 use mathlib.Core.List.{List, [], ◌∷◌, ◌++◌, map}
 use Prim.Native.Nat.{ℕ, zero, suc, ◌+◌, ◌-◌, ◌*◌, ◌≤◌, ◌<◌, max}
 use native.Mathlib.Decide.{dec_lt, ℕ_discrete}
 use native.Mathlib.Numerals.{add-one}
 use native.Mathlib.Omega.{arith}
-use lib.Dec.{leb, ltb}
+use lib.Dec.{leb}
 use lib.ListN.{length, get_or, set, take, drop, length-set, length-map, length-append, length-drop, get_or-append}
 use lib.Seq.{get_or-set_same, get_or-set_other, ext_get_or, length-take-le, get_or-take, get_or-drop, get_or-append-add}
 use borrow.Author.Tests.{leb-true, le-leb}
@@ -59,8 +59,8 @@ view_count t = rows_length t t.count 0
 -- Another clock.
 pub view_clock : (t : Array) (time : Option ℕ) → view_of (put_clock t time) ≡ clock_at (view_of t) time
 unfolding view_of with_clock row_in put_clock suffix_in
-view_clock t none = refl
-view_clock t (some time) = ap {B = Table} (λ (l : List Row). record { clock = time; floor = t.floor; rows = l }) (rows_alike (put_clock t (some time)) t t.count (λ i h. refl))
+view_clock t None = refl
+view_clock t (Some time) = ap {B = Table} (λ (l : List Row). record { clock = time; floor = t.floor; rows = l }) (rows_alike (put_clock t (Some time)) t t.count (λ i h. refl))
 
 -- ── A row stored ────────────────────────────────────────────────────────────────────────────────────────────────────
 
@@ -263,7 +263,7 @@ module _ (t : Array) (i : ℕ) (z : Sized t) (few : t.count ≤ 64) (below : i <
 search_from : (t : Array) (name : List ℕ) (n i : ℕ) → searched t name n i ≡ named_from i (map (λ r. r.suffix) (rows_in t n i)) name
 unfolding searched named_from rows_in row_in
 search_from t name zero i = refl
-search_from t name (suc n) i = ap (λ (o : Option ℕ). elim (same_name (suffix_in t i) name) [ true ↦ some i | false ↦ o ]) (search_from t name n (suc i))
+search_from t name (suc n) i = ap (λ (o : Option ℕ). elim (same_name (suffix_in t i) name) [ true ↦ Some i | false ↦ o ]) (search_from t name n (suc i))
 
 pub search_same : (t : Array) (name : List ℕ) → row_of t name ≡ row_named (names_of (view_of t)) name
 unfolding row_of row_named names_of view_of

@@ -2,12 +2,12 @@
 use Prim.Native.Nat.{ℕ, suc, ◌/◌}
 use mathlib.Core.Bool.{Bool, true, false}
 use mathlib.Core.List.{List, [], ◌∷◌}
-use mathlib.Core.Option.{Option, some}
+use Rattle.std.specs.Prelude.{Option, Some}
 use mathlib.Core.Path.{◌≡◌, refl, sym, ap, ap₂, ◌∙◌}
 use lib.ListN.{length}
 use Rattle.model.specs.Tables.{Table, table_rules}
 use Rattle.model.specs.Octets.{put}
-use Rattle.model.specs.Calls.{DONE, TABLE, refusal_at, Result, unchanged, gate, enrol_passed, enrol_on, close_passed, close_on, time_of, passed, called, issue_on, revoke_on, look_on, message_on, buffer_after}
+use Rattle.model.specs.Calls.{DONE, TABLE, refusal_at, unchanged, gate, enrol_passed, enrol_on, close_passed, close_on, time_of, passed, called, issue_on, revoke_on, look_on, message_on, buffer_after}
 use Rattle.model.specs.Runs.{Operation, enrol, close, call, operated}
 use Rattle.model.specs.Batches.{Batched, batch_on, batch_buffer}
 use Rattle.model.specs.Listing.{listing}
@@ -26,9 +26,9 @@ use Rattle.loading.specs.declared.Mending.{Mending}
 use Rattle.loading.specs.Walk.{named_words}
 use Rattle.loading.specs.Loads.{lends, load_into, end_of, table_after, Loads, mend_into, dropped_by, table_mended, mends_as, mend_end, Mends}
 use Rattle.loading.proofs.Ends.{lends_both}
-use Rattle.layouts.specs.Runs.{Act, load, mend, Ended, alone, single, acted, Does, Ran, seen}
+use Rattle.layouts.specs.Runs.{Act, load, Ended, alone, single, acted, Does, Ran, seen}
 use Rattle.layouts.specs.Array.{view_of, run_in}
-use Rattle.layouts.specs.Claim.{Lent, shown_in, MendDone, Contracts, Covered, Claim}
+use Rattle.layouts.specs.Claim.{shown_in, MendDone, Contracts, Covered, Claim}
 use Rattle.layouts.proofs.ArrayCalls.{ran}
 
 -- ── Any two layouts ─────────────────────────────────────────────────────────────────────────────────────────────────
@@ -55,14 +55,14 @@ module _ {A B : Type 0} (v : A → Table) (u : B → Table) where
 -- ── TABLE ───────────────────────────────────────────────────────────────────────────────────────────────────────────
 
 module _ (t : Table) (e : table_rules t ≡ false) where
-  shut : (time : Option ℕ) → gate t time ≡ some TABLE
+  shut : (time : Option ℕ) → gate t time ≡ Some TABLE
   unfolding gate
   shut time = rw e refl
 
   refused : (o : Operation) → operated t o ≡ unchanged t TABLE
   unfolding operated enrol_on close_on called
-  refused (enrol time suffix lifetime fresh algorithm) = ap (enrol_passed t time suffix lifetime fresh algorithm) (shut (some time))
-  refused (close time number) = ap (close_passed t time number) (shut (some time))
+  refused (enrol time suffix lifetime fresh algorithm) = ap (enrol_passed t time suffix lifetime fresh algorithm) (shut (Some time))
+  refused (close time number) = ap (close_passed t time number) (shut (Some time))
   refused (call c) = ap (passed t c) (shut (time_of c))
 
 covered : Covered

@@ -1,8 +1,7 @@
 -- The layout before 02, CR 11: rows in order of enrolment, their suffixes, lengths and pairs in three arrays, and found by comparing one row after another. It
 -- is here for the claim alone: no code has it any more. Its TABLE is the test of the table that it shows. Closing (02, CR 9), which came after it, is what that
 -- layout would do: later rows move down in each array; and so are loading and mending (02, CR 7): rows put in one after another. Assumes nothing.
-use Rattle.std.specs.Prelude.{ℕ, zero, suc, ◌+◌, ◌-◌, ◌*◌, max, ◌≡◌, Bool, true, false, cond, ◌&&◌, List, [], ◌∷◌, ◌++◌, length, get_or, set, take, drop, leb, ltb}
-use Rattle.std.proofs.Math.Option.{Option, none, some}
+use Rattle.std.specs.Prelude.{ℕ, zero, suc, ◌+◌, ◌-◌, ◌*◌, max, ◌≡◌, true, false, cond, ◌&&◌, List, [], ◌∷◌, ◌++◌, length, get_or, set, take, drop, leb, ltb, Option, None, Some}
 use Rattle.model.specs.declared.BatchItem.{BatchItem}
 use Rattle.model.specs.declared.Pair.{Pair}
 use Rattle.model.specs.Octets.{part, overlay, Reading, stops, reads}
@@ -55,16 +54,16 @@ view_of a = record { clock = a.clock; floor = a.floor; rows = rows_in a a.count 
 
 -- The first of n rows from row i on whose suffix is this name.
 unfoldable pub searched : Array → List ℕ → ℕ → ℕ → Option ℕ
-searched a name zero i = none
-searched a name (suc n) i = elim (same_name (suffix_in a i) name) [ true ↦ some i | false ↦ searched a name n (suc i) ]
+searched a name zero i = None
+searched a name (suc n) i = elim (same_name (suffix_in a i) name) [ true ↦ Some i | false ↦ searched a name n (suc i) ]
 
 unfoldable pub row_of : Array → List ℕ → Option ℕ
 row_of a name = searched a name a.count 0
 
 -- Another clock; another pair in row i; one row more; one row less.
 unfoldable pub put_clock : Array → Option ℕ → Array
-put_clock a none = a
-put_clock a (some time) = record { clock = time; floor = a.floor; count = a.count; suffixes = a.suffixes; lengths = a.lengths; pairs = a.pairs }
+put_clock a None = a
+put_clock a (Some time) = record { clock = time; floor = a.floor; count = a.count; suffixes = a.suffixes; lengths = a.lengths; pairs = a.pairs }
 
 unfoldable pub put_pair : Array → ℕ → Pair → Array
 put_pair a i p = record { clock = a.clock; floor = a.floor; count = a.count; suffixes = a.suffixes; lengths = a.lengths; pairs = set a.pairs i p }
@@ -97,19 +96,19 @@ put_out a i =
 
 -- The row that a call belongs to.
 abbrev pub signed_in : Array → Signature → Option ℕ
-signed_in a unsigned = none
-signed_in a misplaced = none
+signed_in a unsigned = None
+signed_in a misplaced = None
 signed_in a (well_placed s) = row_of a (after_label s.name)
 
 abbrev pub read_in : Array → Reading Message → Option ℕ
-read_in a (stops place) = none
+read_in a (stops place) = None
 read_in a (reads m next) = signed_in a (signature m.records)
 
 unfoldable pub octets_in : Array → List ℕ → Option ℕ
-octets_in a octets = cond (size_ok octets) (read_in a (read_message octets)) none
+octets_in a octets = cond (size_ok octets) (read_in a (read_message octets)) None
 
 unfoldable pub number_in : Array → ℕ → Option ℕ
-number_in a number = cond (leb 1 number && leb number a.count) (some (number - 1)) none
+number_in a number = cond (leb 1 number && leb number a.count) (Some (number - 1)) None
 
 unfoldable pub owner_in : Array → Call → Option ℕ
 owner_in a (issue time number algorithm) = number_in a number
@@ -125,12 +124,12 @@ abbrev pub refused_in : Array → ℕ → Array × Outcome
 refused_in a n = (a, refusal n)
 
 abbrev pub served_in : Array → Call → Option ℕ → Array × Outcome
-served_in a c none = (a, (step_of nobody c).outcome)
-served_in a c (some i) = (put_pair a i (step_of (holder_in a i) c).pair, (step_of (holder_in a i) c).outcome)
+served_in a c None = (a, (step_of nobody c).outcome)
+served_in a c (Some i) = (put_pair a i (step_of (holder_in a i) c).pair, (step_of (holder_in a i) c).outcome)
 
 abbrev pub called_in : Array → Call → Option ℕ → Array × Outcome
-called_in a c (some n) = refused_in a n
-called_in a c none = served_in (put_clock a (time_of c)) c (owner_in (put_clock a (time_of c)) c)
+called_in a c (Some n) = refused_in a n
+called_in a c None = served_in (put_clock a (time_of c)) c (owner_in (put_clock a (time_of c)) c)
 
 unfoldable pub enrolled_in : Array → List ℕ → ℕ → ℕ → ℕ → Array × Outcome
 enrolled_in a suffix lifetime fresh algorithm =
@@ -143,15 +142,15 @@ enrolled_in a suffix lifetime fresh algorithm =
     (put_row a suffix (issued (fresh_pair a.floor lifetime fresh) a.clock g), done (a.count + 1) a.floor)))))
 
 abbrev pub enrol_in : Array → ℕ → List ℕ → ℕ → ℕ → ℕ → Option ℕ → Array × Outcome
-enrol_in a time suffix lifetime fresh algorithm (some n) = refused_in a n
-enrol_in a time suffix lifetime fresh algorithm none = enrolled_in (put_clock a (some time)) suffix lifetime fresh algorithm
+enrol_in a time suffix lifetime fresh algorithm (Some n) = refused_in a n
+enrol_in a time suffix lifetime fresh algorithm None = enrolled_in (put_clock a (Some time)) suffix lifetime fresh algorithm
 
 unfoldable pub closed_in : Array → ℕ → Array × Outcome
 closed_in a number = check_some (refused_in a) NOPAIR (number_in a number) λ i. (put_out a i, done 0 0)
 
 abbrev pub close_in : Array → ℕ → ℕ → Option ℕ → Array × Outcome
-close_in a time number (some n) = refused_in a n
-close_in a time number none = closed_in (put_clock a (some time)) number
+close_in a time number (Some n) = refused_in a n
+close_in a time number None = closed_in (put_clock a (Some time)) number
 
 unfoldable pub new_in : Array → ℕ → Array × Outcome
 new_in a time =
@@ -159,8 +158,8 @@ new_in a time =
     (record { clock = time; floor = 1; count = 0; suffixes = a.suffixes; lengths = a.lengths; pairs = a.pairs }, done 0 0)
 
 unfoldable pub operated_in : Array → Operation → Array × Outcome
-operated_in a (enrol time suffix lifetime fresh algorithm) = enrol_in a time suffix lifetime fresh algorithm (gate (view_of a) (some time))
-operated_in a (close time number) = close_in a time number (gate (view_of a) (some time))
+operated_in a (enrol time suffix lifetime fresh algorithm) = enrol_in a time suffix lifetime fresh algorithm (gate (view_of a) (Some time))
+operated_in a (close time number) = close_in a time number (gate (view_of a) (Some time))
 operated_in a (call c) = called_in a c (gate (view_of a) (time_of c))
 
 -- A batch: TABLE, BATCH, and its items in turn, each lent the room that is left.

@@ -1,7 +1,6 @@
 -- 02, CR 11: "Prove every reply, number and listing equal to the old layout's for any run, .. from tables that list alike. TABLE now also covers the order and
 -- the map." Closing (02, CR 9), loading and mending (02, CR 7) are among the acts. The proof is `claim` of proofs/Claim. Assumes nothing.
-use Rattle.std.specs.Prelude.{ℕ, suc, ◌/◌, ◌<◌, Bool, false, List, [], ◌≡◌, length}
-use Rattle.std.proofs.Math.Option.{Option}
+use Rattle.std.specs.Prelude.{ℕ, suc, ◌/◌, ◌<◌, false, List, [], ◌≡◌, length, Option}
 use Rattle.model.specs.declared.Answer.{Answer}
 use Rattle.model.specs.declared.BatchItem.{BatchItem}
 use Rattle.model.specs.Octets.{put}
@@ -11,7 +10,7 @@ use Rattle.model.specs.Calls.{TABLE, refusal_at, Outcome, unchanged, issue, revo
 use Rattle.model.specs.Runs.{Operation, enrol, close, call, operated}
 use Rattle.model.specs.Batches.{refused_whole, batch_on, replies_of}
 use Rattle.model.specs.Listing.{listing}
-use Rattle.ordering.specs.declared.Ordering.TheVariants.{Less}
+use Rattle.std.specs.declared.cmp.Ordering.TheVariants.{Less}
 use Rattle.ordering.specs.Order.{order_of}
 use Rattle.store.specs.Layout.{count_of, place_of, row_in, suffix_in, layout_rule, table_of}
 use Rattle.operator.specs.Made.{Made}

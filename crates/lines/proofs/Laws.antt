@@ -1,20 +1,20 @@
 -- Laws of a line's end, of fields by places, and of what a field says. Assumes nothing.
-use Prim.Native.Nat.{ℕ, suc, ◌+◌, ◌-◌, ◌≤◌, ◌<◌}
+use Prim.Native.Nat.{ℕ, zero, suc, ◌+◌, ◌-◌, ◌≤◌, ◌<◌}
 use mathlib.Core.Path.{◌≡◌, refl, sym, ap, ◌∙◌}
 use mathlib.Core.Bool.{Bool, true, false, cond, not, ◌&&◌, ◌||◌, false≢true}
-use mathlib.Core.Option.{Option, none, some, some-injective}
+use Rattle.std.specs.Prelude.{Option, None, Some}
+use Rattle.std.proofs.lemmas.Option.{same_Some}
 use mathlib.Core.List.{List, [], ◌∷◌}
 use native.Mathlib.Omega.{arith}
-use native.Mathlib.Numerals.{add-one}
 use lib.Dec.{leb, ltb, eqb}
-use lib.ListN.{length, take, drop, get_or, length-drop, drop_of_length-le}
-use lib.Seq.{drop-cons, drop-drop, length-take-le}
-use borrow.Author.Tests.{eq-eqb, ne_eqb, lt-ltb, le-ltb, le-leb, lt-leb, leb-true}
-use Rattle.model.specs.declared.Algorithm.TheVariants.{Sha256, Sha384, Sha512}
+use lib.ListN.{length, take, drop, get_or, length-drop}
+use lib.Seq.{drop-drop, length-take-le}
+use borrow.Author.Tests.{lt-ltb, le-ltb, le-leb, lt-leb, leb-true, ltb-true, ltb-false}
+use Rattle.std.specs.List.{position, position_or_len, AllWithin, HoldsAt}
+use Rattle.std.specs.Bool.{MatchBool}
 use Rattle.model.specs.Text.{is_word, only_if, is_digit, number_of, nibble, octet_before, unhex}
-use Rattle.model.specs.Listing.{adopted_word, waiting_word, algorithm_word}
-use Rattle.model.specs.Lines.{is_adopted, algorithm_said, lines_of, Fields, ended, parted, begun, field_from, first_field, fields_from, fields_of, plain_number, low_nibble, low_hex, suffix_sized, suffix_said, given}
-use Rattle.model.proofs.Tests.{right}
+use Rattle.model.specs.Lines.{lines_of, Fields, ended, parted, begun, field_from, first_field, fields_from, fields_of, plain_number, low_nibble, low_hex, suffix_sized, suffix_said, given}
+use Rattle.model.proofs.Tests.{right, and_false}
 use Rattle.model.proofs.Fields.{only_if_some, given_is}
 use Rattle.model.proofs.Forward.{line_size, lines_next}
 use Rattle.lines.specs.Fields.{field_size, headed, further_at, is_upper, no_upper}
@@ -22,14 +22,25 @@ use Rattle.lines.specs.Read.{LineEnds}
 
 -- ── Where a line ends ───────────────────────────────────────────────────────────────────────────────────────────────
 
-pub line_here : (s : List ℕ) (i : ℕ) → i < length s → get_or s i 0 ≡ 10 → line_size (drop i s) ≡ 1
-line_here s i h e = rw (drop-cons s i 0 h, eq-eqb _ _ e) refl
+-- The place of the first newline, or the length.
+abbrev pub newline : ℕ → Bool
+newline c = eqb c 10
 
-pub line_on : (s : List ℕ) (i : ℕ) → i < length s → (get_or s i 0 ≡ 10 → ⊥) → line_size (drop i s) ≡ suc (line_size (drop (i + 1) s))
-line_on s i h e = rw (drop-cons s i 0 h, ne_eqb _ _ e, add-one) refl
+pub line_found : (s : List ℕ) → position_or_len newline s < length s → line_size s ≡ position_or_len newline s + 1
+line_found [] h = absurd (omega arith)
+line_found (c ∷ cs) h = go (eqb c 10) (λ l. line_found cs l) h
+  where
+    go : (b : Bool) → (position_or_len newline cs < length cs → line_size cs ≡ position_or_len newline cs + 1) → cond (not b) (1 + position_or_len newline cs) 0 < suc (length cs) → cond b 1 (suc (line_size cs)) ≡ cond (not b) (1 + position_or_len newline cs) 0 + 1
+    go true next h = refl
+    go false next h = let e = next (omega arith) in omega (arith, e)
 
-pub line_none : (s : List ℕ) (i : ℕ) → length s ≤ i → line_size (drop i s) ≡ 0
-line_none s i h = rw (drop_of_length-le s h) refl
+pub line_unended : (s : List ℕ) → length s ≤ position_or_len newline s → line_size s ≡ length s
+line_unended [] h = refl
+line_unended (c ∷ cs) h = go (eqb c 10) (λ l. line_unended cs l) h
+  where
+    go : (b : Bool) → (length cs ≤ position_or_len newline cs → line_size cs ≡ length cs) → suc (length cs) ≤ cond (not b) (1 + position_or_len newline cs) 0 → cond b 1 (suc (line_size cs)) ≡ suc (length cs)
+    go true next h = absurd (omega arith)
+    go false next h = ap suc (next (omega arith))
 
 pub line_ends : (s : List ℕ) (at r : ℕ) → at < r → r ≤ length s → r ≡ at + line_size (drop at s) → LineEnds s at r
 line_ends s at r more within e =
@@ -43,17 +54,40 @@ line_ends s at r more within e =
 
 -- ── Where a field ends ──────────────────────────────────────────────────────────────────────────────────────────────
 
-pub tab_here : (s : List ℕ) (i : ℕ) → i < length s → get_or s i 0 ≡ 9 → field_size (drop i s) ≡ 0
-tab_here s i h e = rw (drop-cons s i 0 h, eq-eqb _ _ e) refl
+-- The place of the first tab or newline, or the length.
+abbrev pub separator : ℕ → Bool
+separator c = eqb c 9 || eqb c 10
 
-pub newline_here : (s : List ℕ) (i : ℕ) → i < length s → (get_or s i 0 ≡ 9 → ⊥) → get_or s i 0 ≡ 10 → field_size (drop i s) ≡ 0
-newline_here s i h t e = rw (drop-cons s i 0 h, ne_eqb _ _ t, eq-eqb _ _ e) refl
+pub field_found : (s : List ℕ) → position_or_len separator s ≡ field_size s
+field_found [] = refl
+field_found (c ∷ cs) = go (separator c) (field_found cs)
+  where
+    go : (b : Bool) → position_or_len separator cs ≡ field_size cs → cond (not b) (1 + position_or_len separator cs) 0 ≡ cond b 0 (suc (field_size cs))
+    go true e = refl
+    go false e = omega (arith, e)
 
-pub field_on : (s : List ℕ) (i : ℕ) → i < length s → (get_or s i 0 ≡ 9 → ⊥) → (get_or s i 0 ≡ 10 → ⊥) → field_size (drop i s) ≡ suc (field_size (drop (i + 1) s))
-field_on s i h t e = rw (drop-cons s i 0 h, ne_eqb _ _ t, ne_eqb _ _ e, add-one) refl
+pub field_short : (s : List ℕ) → field_size s ≤ length s
+field_short [] = omega arith
+field_short (c ∷ cs) = go (separator c) (field_short cs)
+  where
+    go : (b : Bool) → field_size cs ≤ length cs → cond b 0 (suc (field_size cs)) ≤ suc (length cs)
+    go true h = omega arith
+    go false h = omega arith
 
-pub field_none : (s : List ℕ) (i : ℕ) → length s ≤ i → field_size (drop i s) ≡ 0
-field_none s i h = rw (drop_of_length-le s h) refl
+-- What `position` answers.
+pub found_at : (p : ℕ → Bool) (s : List ℕ) (n : ℕ) → position p s ≡ Some n → (position_or_len p s ≡ n) × (n < length s)
+found_at p s n e = go (ltb (position_or_len p s) (length s)) refl e
+  where
+    go : (b : Bool) → ltb (position_or_len p s) (length s) ≡ b → cond b (Some (position_or_len p s)) None ≡ Some n → (position_or_len p s ≡ n) × (n < length s)
+    go true f e = let i = same_Some _ _ e in (i, rw i at (ltb-true _ _ f))
+    go false f e = grind arith
+
+pub found_none : (p : ℕ → Bool) (s : List ℕ) → position p s ≡ None → length s ≤ position_or_len p s
+found_none p s e = go (ltb (position_or_len p s) (length s)) refl e
+  where
+    go : (b : Bool) → ltb (position_or_len p s) (length s) ≡ b → cond b (Some (position_or_len p s)) None ≡ None → length s ≤ position_or_len p s
+    go true f e = grind arith
+    go false f e = ltb-false _ _ f
 
 -- The first field, and the fields by the separator behind it.
 first_from : (b : Bool) (c : ℕ) (cs : List ℕ) → first_field cs ≡ take (field_size cs) cs → field_from b c (first_field cs) ≡ take (cond b 0 (suc (field_size cs))) (c ∷ cs)
@@ -66,15 +100,15 @@ first_is [] = refl
 first_is (c ∷ cs) = first_from (eqb c 9 || eqb c 10) c cs (first_is cs)
 
 abbrev pub behind : List ℕ → Option (List (List ℕ)) → Option Fields
-behind f o = given o λ fs. some (record { first = f; further = fs })
+behind f o = given o λ fs. Some (record { first = f; further = fs })
 
 begun_behind : (c : ℕ) (f : List ℕ) (o : Option (List (List ℕ))) → begun c (behind f o) ≡ behind (c ∷ f) o
-begun_behind c f none = refl
-begun_behind c f (some fs) = refl
+begun_behind c f None = refl
+begun_behind c f (Some fs) = refl
 
 -- Fields of which the first is empty.
 abbrev pub bare : Option Fields → Option (List (List ℕ))
-bare o = given o λ w. only_if (is_word w.first []) (some w.further)
+bare o = given o λ w. only_if (is_word w.first []) (Some w.further)
 
 ended_bare : (cs : List ℕ) → ended cs ≡ behind [] (bare (ended cs))
 unfolding is_word
@@ -83,8 +117,8 @@ ended_bare (c ∷ cs) = refl
 
 parted_bare : (o : Option Fields) → parted o ≡ behind [] (bare (parted o))
 unfolding is_word
-parted_bare none = refl
-parted_bare (some w) = refl
+parted_bare None = refl
+parted_bare (Some w) = refl
 
 fields_from_lem :
     (c : ℕ) (cs : List ℕ) (t n : Bool)
@@ -124,57 +158,30 @@ leading [] h = absurd (omega arith)
 leading (c ∷ []) h = absurd (omega arith)
 leading (c ∷ d ∷ ds) h = refl
 
-pub leading_zero : (f : List ℕ) → 2 ≤ length f → get_or f 0 0 ≤ 48 → plain_number f ≡ none
+pub leading_zero : (f : List ℕ) → 2 ≤ length f → get_or f 0 0 ≤ 48 → plain_number f ≡ None
 leading_zero f h e = leading f h ∙ rw (le-ltb 48 (get_or f 0 0) e) refl
 
 pub no_leading_zero : (f : List ℕ) → 2 ≤ length f → 48 < get_or f 0 0 → plain_number f ≡ number_of f
 no_leading_zero f h e = leading f h ∙ rw (lt-ltb 48 (get_or f 0 0) e) refl
 
--- ── Words ───────────────────────────────────────────────────────────────────────────────────────────────────────────
-
-module _ (f : List ℕ) where
-  pub adopted_said : is_word f adopted_word ≡ true → is_adopted f ≡ some true
-  unfolding is_adopted
-  adopted_said a = rw a refl
-
-  pub waiting_said : is_word f adopted_word ≡ false → is_word f waiting_word ≡ true → is_adopted f ≡ some false
-  unfolding is_adopted
-  waiting_said a w = rw (a, w) refl
-
-  pub no_state : is_word f adopted_word ≡ false → is_word f waiting_word ≡ false → is_adopted f ≡ none
-  unfolding is_adopted
-  no_state a w = rw (a, w) refl
-
-  pub sha256_said : is_word f (algorithm_word Sha256) ≡ true → algorithm_said f ≡ some Sha256
-  unfolding algorithm_said
-  sha256_said a = rw a refl
-
-  pub sha384_said : is_word f (algorithm_word Sha256) ≡ false → is_word f (algorithm_word Sha384) ≡ true → algorithm_said f ≡ some Sha384
-  unfolding algorithm_said
-  sha384_said a b = rw (a, b) refl
-
-  pub sha512_said : is_word f (algorithm_word Sha256) ≡ false → is_word f (algorithm_word Sha384) ≡ false → is_word f (algorithm_word Sha512) ≡ true → algorithm_said f ≡ some Sha512
-  unfolding algorithm_said
-  sha512_said a b d = rw (a, b, d) refl
-
-  pub no_algorithm : is_word f (algorithm_word Sha256) ≡ false → is_word f (algorithm_word Sha384) ≡ false → is_word f (algorithm_word Sha512) ≡ false → algorithm_said f ≡ none
-  unfolding algorithm_said
-  no_algorithm a b d = rw (a, b, d) refl
-
 -- ── Octets ──────────────────────────────────────────────────────────────────────────────────────────────────────────
 
-module _ (w : List ℕ) (i : ℕ) where
-  pub upper_here : i < length w → is_upper (get_or w i 0) ≡ true → no_upper (drop i w) ≡ false
-  unfolding no_upper
-  upper_here h e = rw (drop-cons w i 0 h, e) refl
+lower_all : (w : List ℕ) → ((k : ℕ) → k < length w → is_upper (get_or w k 0) ≡ false) → no_upper w ≡ true
+unfolding no_upper
+lower_all [] h = refl
+lower_all (c ∷ cs) h = rw (h 0 (omega arith)) (lower_all cs (λ k l. h (suc k) (omega arith)))
 
-  pub upper_on : i < length w → is_upper (get_or w i 0) ≡ false → no_upper (drop i w) ≡ no_upper (drop (i + 1) w)
-  unfolding no_upper
-  upper_on h e = rw (drop-cons w i 0 h, e, add-one) refl
+upper_at : (w : List ℕ) (k : ℕ) → k < length w → is_upper (get_or w k 0) ≡ true → no_upper w ≡ false
+unfolding no_upper
+upper_at [] k h e = absurd (omega arith)
+upper_at (c ∷ cs) zero h e = rw e refl
+upper_at (c ∷ cs) (suc k) h e = rw (upper_at cs k (omega arith) e) (and_false (not (is_upper c)) refl)
 
-  pub upper_none : length w ≤ i → no_upper (drop i w) ≡ true
-  unfolding no_upper
-  upper_none h = rw (drop_of_length-le w h) refl
+pub no_upper_by : (w : List ℕ) (r : Bool)
+    → MatchBool r (AllWithin (λ c. is_upper c ≡ false) w 0 (length w)) ((k : ℕ) × (k < length w) × HoldsAt (λ c. is_upper c ≡ true) w k)
+    → r ≡ no_upper w
+no_upper_by w true h = sym (lower_all w (λ k l. h k 0 (omega arith) l))
+no_upper_by w false h = sym (upper_at w h.0 h.1 (h.2 0))
 
 -- Lower-case hexadecimal is hexadecimal without upper-case digits.
 low_nibble_lem : (c : ℕ) → low_nibble c ≡ only_if (not (is_upper c)) (nibble c)
@@ -188,7 +195,7 @@ low_nibble_lem c =
         (d u l : Bool)
         → (d ≡ true → u ≡ false)
         → (u ≡ true → l ≡ false)
-        → cond d (some (c - 48)) (cond l (some (c - 87)) none) ≡ only_if (not u) (cond d (some (c - 48)) (cond u (some (c - 55)) (cond l (some (c - 87)) none)))
+        → cond d (Some (c - 48)) (cond l (Some (c - 87)) None) ≡ only_if (not u) (cond d (Some (c - 48)) (cond u (Some (c - 55)) (cond l (Some (c - 87)) None)))
     go true true l e f = absurd (false≢true (sym (e refl)))
     go true false l e f = refl
     go false true true e f = absurd (false≢true (sym (f refl)))
@@ -197,14 +204,14 @@ low_nibble_lem c =
 
 before_low : (p q r : Bool) (x y : Option ℕ) (z : Option (List ℕ)) → octet_before (only_if p x) (only_if q y) (only_if r z) ≡ only_if (p && (q && r)) (octet_before x y z)
 before_low false q r x y z = refl
-before_low true false r none y z = refl
-before_low true false r (some x) y z = refl
-before_low true true false none y z = refl
-before_low true true false (some x) none z = refl
-before_low true true false (some x) (some y) z = refl
+before_low true false r None y z = refl
+before_low true false r (Some x) y z = refl
+before_low true true false None y z = refl
+before_low true true false (Some x) None z = refl
+before_low true true false (Some x) (Some y) z = refl
 before_low true true true x y z = refl
 
-none_only : (b : Bool) → ◌≡◌ {A = Option (List ℕ)} none (only_if b none)
+none_only : (b : Bool) → ◌≡◌ {A = Option (List ℕ)} None (only_if b None)
 none_only true = refl
 none_only false = refl
 
@@ -216,14 +223,14 @@ low_hex_lem (a ∷ b ∷ cs) = rw (low_nibble_lem a, low_nibble_lem b, low_hex_l
 
 -- Two digits an octet.
 abbrev Halved : List ℕ → Option (List ℕ) → Type 0
-Halved f none = Unit {0}
-Halved f (some s) = length f ≡ length s + length s
+Halved f None = Unit {0}
+Halved f (Some s) = length f ≡ length s + length s
 
 halved_before : (a b : ℕ) (cs : List ℕ) (x y : Option ℕ) (o : Option (List ℕ)) → Halved cs o → Halved (a ∷ b ∷ cs) (octet_before x y o)
-halved_before a b cs none y o h = tt
-halved_before a b cs (some x) none o h = tt
-halved_before a b cs (some x) (some y) none h = tt
-halved_before a b cs (some x) (some y) (some s) h = omega arith
+halved_before a b cs None y o h = tt
+halved_before a b cs (Some x) None o h = tt
+halved_before a b cs (Some x) (Some y) None h = tt
+halved_before a b cs (Some x) (Some y) (Some s) h = omega arith
 
 halved : (f : List ℕ) → Halved f (low_hex f)
 unfolding low_hex
@@ -231,28 +238,28 @@ halved [] = refl
 halved (a ∷ []) = tt
 halved (a ∷ b ∷ cs) = halved_before a b cs (low_nibble a) (low_nibble b) (low_hex cs) (halved cs)
 
-pub upper_suffix : (f : List ℕ) → no_upper f ≡ false → suffix_said f ≡ none
+pub upper_suffix : (f : List ℕ) → no_upper f ≡ false → suffix_said f ≡ None
 unfolding suffix_said
 upper_suffix f e = rw (low_hex_lem f, e) refl
 
 -- A suffix has 1 to 128 octets where its digits are 1 to 256.
 in_size : (f : List ℕ) (o : Option (List ℕ)) → Halved f o → 1 ≤ length f → length f ≤ 256 → given o suffix_sized ≡ o
-in_size f none h a b = refl
-in_size f (some s) h a b = rw (le-leb 1 (length s) (omega arith), le-leb (length s) 128 (omega arith)) refl
+in_size f None h a b = refl
+in_size f (Some s) h a b = rw (le-leb 1 (length s) (omega arith), le-leb (length s) 128 (omega arith)) refl
 
-too_short : (f : List ℕ) (o : Option (List ℕ)) → Halved f o → length f ≡ 0 → given o suffix_sized ≡ none
-too_short f none h e = refl
-too_short f (some s) h e = rw (lt-leb 1 (length s) (omega arith)) refl
+too_short : (f : List ℕ) (o : Option (List ℕ)) → Halved f o → length f ≡ 0 → given o suffix_sized ≡ None
+too_short f None h e = refl
+too_short f (Some s) h e = rw (lt-leb 1 (length s) (omega arith)) refl
 
-too_long : (f : List ℕ) (o : Option (List ℕ)) → Halved f o → 256 < length f → given o suffix_sized ≡ none
-too_long f none h e = refl
-too_long f (some s) h e = rw (le-leb 1 (length s) (omega arith), lt-leb (length s) 128 (omega arith)) refl
+too_long : (f : List ℕ) (o : Option (List ℕ)) → Halved f o → 256 < length f → given o suffix_sized ≡ None
+too_long f None h e = refl
+too_long f (Some s) h e = rw (le-leb 1 (length s) (omega arith), lt-leb (length s) 128 (omega arith)) refl
 
-pub short_suffix : (f : List ℕ) → length f ≡ 0 → suffix_said f ≡ none
+pub short_suffix : (f : List ℕ) → length f ≡ 0 → suffix_said f ≡ None
 unfolding suffix_said
 short_suffix f e = too_short f (low_hex f) (halved f) e
 
-pub long_suffix : (f : List ℕ) → 256 < length f → suffix_said f ≡ none
+pub long_suffix : (f : List ℕ) → 256 < length f → suffix_said f ≡ None
 unfolding suffix_said
 long_suffix f e = too_long f (low_hex f) (halved f) e
 
@@ -260,12 +267,12 @@ pub plain_suffix : (f : List ℕ) → 1 ≤ length f → length f ≤ 256 → no
 unfolding suffix_said
 plain_suffix f a b e = in_size f (low_hex f) (halved f) a b ∙ rw (low_hex_lem f, e) refl
 
-pub suffix_bound : (f out : List ℕ) (n : ℕ) → suffix_said f ≡ some (take n out) → n ≤ length out → n ≤ 128
+pub suffix_bound : (f out : List ℕ) (n : ℕ) → suffix_said f ≡ Some (take n out) → n ≤ length out → n ≤ 128
 unfolding suffix_said
 suffix_bound f out n e h =
     let g = given_is (low_hex f) suffix_sized (take n out) e in
     let s = g.0 in
-    let p = only_if_some (leb 1 (length s) && leb (length s) 128) (some s) (take n out) g.2 in
-    let is : length s ≡ n = ap length (some-injective s (take n out) p.1) ∙ length-take-le n out h in
+    let p = only_if_some (leb 1 (length s) && leb (length s) 128) (Some s) (take n out) g.2 in
+    let is : length s ≡ n = ap length (same_Some s (take n out) p.1) ∙ length-take-le n out h in
     let most : length s ≤ 128 = leb-true (length s) 128 (right (leb 1 (length s)) (leb (length s) 128) p.0) in
     omega arith

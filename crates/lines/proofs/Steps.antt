@@ -2,7 +2,7 @@
 use Prim.Native.Nat.{ℕ, suc, ◌+◌, ◌-◌, ◌≤◌, ◌<◌}
 use mathlib.Core.Path.{◌≡◌, refl, ap, ◌∙◌}
 use mathlib.Core.Bool.{Bool, true, false, ◌&&◌}
-use mathlib.Core.Option.{Option, none, some}
+use Rattle.std.specs.Prelude.{Option, None, Some}
 use mathlib.Core.List.{List, [], ◌∷◌}
 use native.Mathlib.Omega.{arith}
 use native.Mathlib.Numerals.{add-one}
@@ -13,12 +13,12 @@ use borrow.Author.Tests.{ne_eqb}
 use Rattle.model.specs.Text.{is_word, only_if}
 use Rattle.model.specs.Listing.{key_word}
 use Rattle.model.specs.Lines.{Fields, parted, fields_from, fields_of, is_key_line, plain_number, given, field, no_more, worded}
-use Rattle.lines.specs.Fields.{field_size, headed, further_at, and_rest, taken, up_to, Triple, triple_said, last_numbers}
+use Rattle.lines.specs.Fields.{field_size, headed, further_at, and_rest, taken, up_to, triple_said, last_numbers}
 use Rattle.lines.proofs.Laws.{first_is, behind, bare, fields_at}
 
 -- ── The first field ─────────────────────────────────────────────────────────────────────────────────────────────────
 
-none_only : {A : Type 0} (b : Bool) → ◌≡◌ {A = Option A} none (only_if b none)
+none_only : {A : Type 0} (b : Bool) → ◌≡◌ {A = Option A} None (only_if b None)
 none_only true = refl
 none_only false = refl
 
@@ -31,9 +31,9 @@ module _ (l : List ℕ) (r : ℕ) (is : r ≡ 0 + field_size l) where
   unfolding headed
   first_word word = let size : r - 0 ≡ r = omega arith in go (further_at l r) (rw size at (fields_at l 0 r is))
     where
-      go : (o : Option (List (List ℕ))) → fields_of l ≡ behind (take r l) o → given (fields_of l) (λ w. only_if (is_word w.first word) (some w.further)) ≡ only_if (is_word (take r l) word) o
-      go none e = rw e (none_only (is_word (take r l) word))
-      go (some fs) e = rw e refl
+      go : (o : Option (List (List ℕ))) → fields_of l ≡ behind (take r l) o → given (fields_of l) (λ w. only_if (is_word w.first word) (Some w.further)) ≡ only_if (is_word (take r l) word) o
+      go None e = rw e (none_only (is_word (take r l) word))
+      go (Some fs) e = rw e refl
 
 -- What is said of the fields behind the first.
 module _ {B : Type 0} (word l : List ℕ) (k : List (List ℕ) → Option B) where
@@ -41,15 +41,15 @@ module _ {B : Type 0} (word l : List ℕ) (k : List (List ℕ) → Option B) whe
   unfolding headed
   by_head = go (fields_of l)
     where
-      only : (b : Bool) (fs : List (List ℕ)) → only_if b (k fs) ≡ given (only_if b (some fs)) k
+      only : (b : Bool) (fs : List (List ℕ)) → only_if b (k fs) ≡ given (only_if b (Some fs)) k
       only true fs = refl
       only false fs = refl
 
-      go : (o : Option Fields) → given o (λ w. only_if (is_word w.first word) (k w.further)) ≡ given (given o (λ w. only_if (is_word w.first word) (some w.further))) k
-      go none = refl
-      go (some w) = only (is_word w.first word) w.further
+      go : (o : Option Fields) → given o (λ w. only_if (is_word w.first word) (k w.further)) ≡ given (given o (λ w. only_if (is_word w.first word) (Some w.further))) k
+      go None = refl
+      go (Some w) = only (is_word w.first word) w.further
 
-  pub unheaded : headed word l ≡ none → worded word l k ≡ none
+  pub unheaded : headed word l ≡ None → worded word l k ≡ None
   unheaded e = by_head ∙ rw e refl
 
   pub begins : (at : ℕ) → headed word l ≡ further_at l at → worded word l k ≡ given (further_at l at) k
@@ -58,33 +58,33 @@ module _ {B : Type 0} (word l : List ℕ) (k : List (List ℕ) → Option B) whe
 -- ── The next field ──────────────────────────────────────────────────────────────────────────────────────────────────
 
 abbrev next_of : Option (List (List ℕ)) → Option (List ℕ × List (List ℕ))
-next_of o = given o λ fs. field some fs and_rest
+next_of o = given o λ fs. field Some fs and_rest
 
-other_next : (n : Bool) (c : ℕ) (cs : List ℕ) (o : Option Fields) → next_of (bare (fields_from n false c cs o)) ≡ none
+other_next : (n : Bool) (c : ℕ) (cs : List ℕ) (o : Option Fields) → next_of (bare (fields_from n false c cs o)) ≡ None
 unfolding is_word
 other_next true c [] o = refl
 other_next true c (d ∷ ds) o = refl
-other_next false c cs none = refl
-other_next false c cs (some w) = refl
+other_next false c cs None = refl
+other_next false c cs (Some w) = refl
 
 tab_next : (f : List ℕ) (o : Option (List (List ℕ))) → next_of (bare (parted (behind f o))) ≡ given o (and_rest f)
 unfolding is_word
-tab_next f none = refl
-tab_next f (some fs) = refl
+tab_next f None = refl
+tab_next f (Some fs) = refl
 
 module _ (l : List ℕ) (at : ℕ) where
-  pub past_end : length l ≤ at → taken some l at ≡ none
+  pub past_end : length l ≤ at → taken Some l at ≡ None
   unfolding taken further_at headed fields_of
   past_end h = rw (drop_of_length-le l h) refl
 
-  pub no_tab : at < length l → (get_or l at 0 ≡ 9 → ⊥) → taken some l at ≡ none
+  pub no_tab : at < length l → (get_or l at 0 ≡ 9 → ⊥) → taken Some l at ≡ None
   unfolding taken further_at headed fields_of
   no_tab h e = rw (drop-cons l at 0 h, ne_eqb (get_or l at 0) 9 e) (other_next (eqb (get_or l at 0) 10) (get_or l at 0) (drop (suc at) l) (fields_of (drop (suc at) l)))
 
   tab_first : at < length l → get_or l at 0 ≡ 9 → drop at l ≡ 9 ∷ drop (at + 1) l
   tab_first h e = rw (drop-cons l at 0 h, e, add-one) refl
 
-  pub tab : at < length l → get_or l at 0 ≡ 9 → (r : ℕ) → r ≡ at + 1 + field_size (drop (at + 1) l) → taken some l at ≡ up_to l (take (r - (at + 1)) (drop (at + 1) l)) r
+  pub tab : at < length l → get_or l at 0 ≡ 9 → (r : ℕ) → r ≡ at + 1 + field_size (drop (at + 1) l) → taken Some l at ≡ up_to l (take (r - (at + 1)) (drop (at + 1) l)) r
   unfolding taken further_at headed fields_of
   tab h e r is = rw (tab_first h e, fields_at l (at + 1) r is) (tab_next (take (r - (at + 1)) (drop (at + 1) l)) (further_at l r))
 
@@ -92,26 +92,26 @@ module _ {A : Type 0} (says : List ℕ → Option A) (l : List ℕ) (at : ℕ) w
   abbrev saying : List ℕ × List (List ℕ) → Option (A × List (List ℕ))
   saying p = given (says p.0) λ a. and_rest a p.1
 
-  by_field : taken says l at ≡ given (taken some l at) saying
+  by_field : taken says l at ≡ given (taken Some l at) saying
   unfolding taken
   by_field = go (further_at l at)
     where
       go : (o : Option (List (List ℕ))) → given o (λ fs. field says fs and_rest) ≡ given (next_of o) saying
-      go none = refl
-      go (some []) = refl
-      go (some (f ∷ fs)) = refl
+      go None = refl
+      go (Some []) = refl
+      go (Some (f ∷ fs)) = refl
 
-  pub no_field : taken some l at ≡ none → taken says l at ≡ none
+  pub no_field : taken Some l at ≡ None → taken says l at ≡ None
   no_field e = by_field ∙ rw e refl
 
-  pub field_says : (f : List ℕ) (next : ℕ) (o : Option A) → taken some l at ≡ up_to l f next → says f ≡ o → taken says l at ≡ given o (λ a. up_to l a next)
+  pub field_says : (f : List ℕ) (next : ℕ) (o : Option A) → taken Some l at ≡ up_to l f next → says f ≡ o → taken says l at ≡ given o (λ a. up_to l a next)
   field_says f next o e is = by_field ∙ rw e (go (further_at l next) o is)
     where
       go : (p : Option (List (List ℕ))) (o : Option A) → says f ≡ o → given (given p (and_rest f)) saying ≡ given o (λ a. given p (and_rest a))
-      go none none is = refl
-      go none (some a) is = refl
-      go (some rest) none is = rw is refl
-      go (some rest) (some a) is = rw is refl
+      go None None is = refl
+      go None (Some a) is = refl
+      go (Some rest) None is = rw is refl
+      go (Some rest) (Some a) is = rw is refl
 
 -- ── What is said of the fields behind a separator ───────────────────────────────────────────────────────────────────
 
@@ -124,40 +124,40 @@ module _ {A B : Type 0} (says : List ℕ → Option A) (l : List ℕ) (at : ℕ)
   continues = go (further_at l at)
     where
       one : (o : Option A) (fs : List (List ℕ)) → given o (λ a. k a fs) ≡ given (given o (λ a. and_rest a fs)) going
-      one none fs = refl
-      one (some a) fs = refl
+      one None fs = refl
+      one (Some a) fs = refl
 
       go : (o : Option (List (List ℕ))) → given o (λ fs. field says fs k) ≡ given (given o (λ fs. field says fs and_rest)) going
-      go none = refl
-      go (some []) = refl
-      go (some (f ∷ fs)) = one (says f) fs
+      go None = refl
+      go (Some []) = refl
+      go (Some (f ∷ fs)) = one (says f) fs
 
-  pub stops : taken says l at ≡ none → given (further_at l at) (λ fs. field says fs k) ≡ none
+  pub stops : taken says l at ≡ None → given (further_at l at) (λ fs. field says fs k) ≡ None
   stops e = continues ∙ rw e refl
 
   pub steps : (a : A) (next : ℕ) → taken says l at ≡ up_to l a next → given (further_at l at) (λ fs. field says fs k) ≡ given (further_at l next) (k a)
   steps a next e = continues ∙ rw e (go (further_at l next))
     where
       go : (o : Option (List (List ℕ))) → given (given o (and_rest a)) going ≡ given o (k a)
-      go none = refl
-      go (some rest) = refl
+      go None = refl
+      go (Some rest) = refl
 
 -- No more fields: the newline is all that is left.
-end_from : {B : Type 0} (b : B) (n t : Bool) (c : ℕ) (cs : List ℕ) (o : Option Fields) → given (bare (fields_from n t c cs o)) (λ fs. no_more fs b) ≡ only_if (n && is_word cs []) (some b)
+end_from : {B : Type 0} (b : B) (n t : Bool) (c : ℕ) (cs : List ℕ) (o : Option Fields) → given (bare (fields_from n t c cs o)) (λ fs. no_more fs b) ≡ only_if (n && is_word cs []) (Some b)
 unfolding is_word
 end_from b true t c [] o = refl
 end_from b true t c (d ∷ ds) o = refl
-end_from b false true c cs none = refl
-end_from b false true c cs (some w) = refl
-end_from b false false c cs none = refl
-end_from b false false c cs (some w) = refl
+end_from b false true c cs None = refl
+end_from b false true c cs (Some w) = refl
+end_from b false false c cs None = refl
+end_from b false false c cs (Some w) = refl
 
-end_of : {B : Type 0} (b : B) (s : List ℕ) → given (headed [] s) (λ fs. no_more fs b) ≡ only_if (is_word s (10 ∷ [])) (some b)
+end_of : {B : Type 0} (b : B) (s : List ℕ) → given (headed [] s) (λ fs. no_more fs b) ≡ only_if (is_word s (10 ∷ [])) (Some b)
 unfolding headed fields_of is_word
 end_of b [] = refl
 end_of b (c ∷ cs) = end_from b (eqb c 10) (eqb c 9) c cs (fields_of cs)
 
-pub ends : {B : Type 0} (l : List ℕ) (at : ℕ) (b : B) → given (further_at l at) (λ fs. no_more fs b) ≡ only_if (is_word (drop at l) (10 ∷ [])) (some b)
+pub ends : {B : Type 0} (l : List ℕ) (at : ℕ) (b : B) → given (further_at l at) (λ fs. no_more fs b) ≡ only_if (is_word (drop at l) (10 ∷ [])) (Some b)
 unfolding further_at
 ends l at b = end_of b (drop at l)
 
@@ -170,8 +170,8 @@ field_given {A} {B} {C} says j h [] = refl
 field_given {A} {B} {C} says j h (f ∷ fs) = go (says f)
   where
     go : (o : Option A) → given o (λ a. given (j a fs) h) ≡ given (given o (λ a. j a fs)) h
-    go none = refl
-    go (some a) = refl
+    go None = refl
+    go (Some a) = refl
 
 -- What is said by three numbers, by the triple.
 module _ {B : Type 0} (k : ℕ → ℕ → ℕ → B) where
@@ -182,11 +182,11 @@ module _ {B : Type 0} (k : ℕ → ℕ → ℕ → B) where
       field plain_number fs λ c fs.
       no_more fs (k a b c)
 
-  abbrev pub triplet : Triple → Option B
-  triplet t = some (k t.first t.second t.third)
+  abbrev pub triplet : ℕ × ℕ × ℕ → Option B
+  triplet t = Some (k t.0 t.1 t.2)
 
-  abbrev triple_of : ℕ → ℕ → ℕ → List (List ℕ) → Option Triple
-  triple_of a b c fs = no_more fs (record { first = a; second = b; third = c })
+  abbrev triple_of : ℕ → ℕ → ℕ → List (List ℕ) → Option (ℕ × ℕ × ℕ)
+  triple_of a b c fs = no_more fs (a, b, c)
 
   no_more_lem : (a b c : ℕ) (fs : List (List ℕ)) → no_more fs (k a b c) ≡ given (triple_of a b c fs) triplet
   no_more_lem a b c [] = refl
@@ -203,10 +203,10 @@ module _ {B : Type 0} (k : ℕ → ℕ → ℕ → B) where
   by_triple : (fs : List (List ℕ)) → saidBy fs ≡ given (triple_said fs) triplet
   by_triple fs = (λ i. field plain_number fs (λ a gs. by_second_lem a gs i)) ∙ field_given plain_number (λ a gs. field plain_number gs λ b gs. field plain_number gs (triple_of a b)) triplet fs
 
-  pub numbers_are : (l : List ℕ) (at : ℕ) (o : Option Triple) → last_numbers l at ≡ o → given (further_at l at) saidBy ≡ given o triplet
+  pub numbers_are : (l : List ℕ) (at : ℕ) (o : Option (ℕ × ℕ × ℕ)) → last_numbers l at ≡ o → given (further_at l at) saidBy ≡ given o triplet
   unfolding last_numbers
-  numbers_are l at o e = go (further_at l at) ∙ ap (λ (o : Option Triple). given o triplet) e
+  numbers_are l at o e = go (further_at l at) ∙ ap (λ (o : Option (ℕ × ℕ × ℕ)). given o triplet) e
     where
       go : (p : Option (List (List ℕ))) → given p saidBy ≡ given (given p triple_said) triplet
-      go none = refl
-      go (some fs) = by_triple fs
+      go None = refl
+      go (Some fs) = by_triple fs

@@ -2,91 +2,47 @@
 // line; each step answers what the field says and the place of the next separator.
 #![tactic(auto)]
 
-ghost use Rattle.std.specs.Prelude.{◌≡◌, ◌≤◌, ◌<◌, [], ◌∷◌, length, drop};
+ghost use Rattle.std.specs.Prelude.{◌≡◌, ◌≤◌, ◌<◌, ◌==◌, ◌||◌, [], ◌∷◌, List, Option, ℕ, length, drop, position};
 ghost use Rattle.model.specs.Text.{is_word};
 ghost use Rattle.model.specs.Lines.{is_key_line, plain_number, is_adopted, algorithm_said, suffix_said, read_clock, read_key};
-ghost use Rattle.words.specs.Reads.{number_shown, OctetsRead};
-ghost use Rattle.lines.specs.Fields.{is_upper, no_upper, headed, taken, last_numbers, place_shown, number_taken, state_taken, algorithm_taken, numbers_shown, FieldEnds, FieldTaken, SuffixTaken};
-ghost use Rattle.lines.specs.Read.{clock_shown, key_shown, LineEnds, PairRead};
+ghost use Rattle.words.specs.Reads.{OctetsRead};
+ghost use Rattle.lines.specs.Fields.{no_upper, headed, taken, last_numbers, place_shown, field_shown, FieldEnds, FieldTaken, SuffixTaken};
+ghost use Rattle.lines.specs.Read.{LineEnds, PairRead};
 
 use model::{Algorithm, Clocked, Key, Keys, Pair, Stated};
-use words::{Number, Octets};
-
-// What a line says as the first line, as a pair's and as a key's; or it does not read.
-#[derive(Clone, Copy)]
-pub enum ClockLine {
-    Is(Clocked),
-    Unread,
-}
-
-// A pair that has no keys yet; its suffix has so many octets.
-#[derive(Clone, Copy)]
-pub enum PairLine {
-    Is(usize, Pair),
-    Unread,
-}
-
-#[derive(Clone, Copy)]
-pub enum KeyLine {
-    Is(Stated),
-    Unread,
-}
-
-// The place of a separator.
-#[derive(Clone, Copy)]
-enum Place {
-    At(usize),
-    None,
-}
 
 // What a field says, and the place of the separator behind it.
 #[derive(Clone, Copy)]
-enum NumberField {
-    Is(u64, usize),
-    None,
-}
-
-#[derive(Clone, Copy)]
-enum StateField {
-    Is(bool, usize),
-    None,
-}
-
-#[derive(Clone, Copy)]
-enum AlgorithmField {
-    Is(Algorithm, usize),
-    None,
-}
-
-// How many octets a suffix has.
-#[derive(Clone, Copy)]
-enum SuffixField {
-    Is(usize, usize),
-    None,
-}
-
-// The last three fields of a line: a pair's next serial, lifetime and fresh period, or a key's three times.
-#[derive(Clone, Copy)]
-enum Numbers {
-    Are(u64, u64, u64),
-    None,
+struct Field<T> {
+    said: T,
+    next: usize,
 }
 
 // ── Lines and fields ────────────────────────────────────────────────────────────────────────────────────────────────
+
+// How many octets stand before the first newline.
+fn to_newline(s: &[u8]) -> Option<usize>
+    ensures { result ≡ position (λ c. c == 10) s.now }
+{
+    s.iter().position(|c| *c == b'\n')
+}
+
+// How many octets stand before the first tab or newline.
+fn to_separator(s: &[u8]) -> Option<usize>
+    ensures { result ≡ position (λ c. c == 9 || c == 10) s.now }
+{
+    s.iter().position(|c| *c == b'\t' || *c == b'\n')
+}
 
 // Where the line that begins at `at` ends, its newline counted.
 pub fn line_end(text: &[u8], at: usize) -> usize
     requires { at < length text.now }
     ensures { LineEnds text.now at result }
 {
-    let mut i = at;
-    while i < text.len() {
-        if text[i] == 10 {
-            return i + 1;
-        }
-        i += 1;
+    match to_newline(&text[at..]) {
+        Some(n) => at + n + 1,
+        None => text.len(),
     }
-    i
 }
 
 // Where the field that begins at `from` ends: at a tab, at a newline, or with the line.
@@ -94,168 +50,131 @@ fn field_end(line: &[u8], from: usize) -> usize
     requires { from ≤ length line.now }
     ensures { FieldEnds line.now from result }
 {
-    let mut i = from;
-    while i < line.len() {
-        if line[i] == 9 {
-            return i;
-        }
-        if line[i] == 10 {
-            return i;
-        }
-        i += 1;
+    match to_separator(&line[from..]) {
+        Some(n) => from + n,
+        None => line.len(),
     }
-    i
 }
 
 // Where the first field ends, which must be this word.
-fn first_end(line: &[u8], word: &[u8]) -> Place
+fn first_end(line: &[u8], word: &[u8]) -> Option<usize>
     ensures { headed word.now line.now ≡ place_shown line.now result }
 {
     let end = field_end(line, 0);
     if words::is_word(&line[..end], word) {
-        return Place::At(end);
+        return Some(end);
     }
-    Place::None
+    None
 }
 
 // Where the field behind the tab at `at` ends.
-fn next_end(line: &[u8], at: usize) -> Place
+fn next_end(line: &[u8], at: usize) -> Option<usize>
     ensures { FieldTaken line.now at result }
 {
     if line.len() <= at {
-        return Place::None;
+        return None;
     }
-    if line[at] == 9 {
-        return Place::At(field_end(line, at + 1));
+    if line[at] == b'\t' {
+        return Some(field_end(line, at + 1));
     }
-    Place::None
+    None
 }
 
 // Whether the newline at `at` ends the line.
 fn is_end(line: &[u8], at: usize) -> bool
     ensures { result ≡ is_word (drop at line.now) (10 ∷ []) }
 {
-    if line.len() < at {
-        return false;
-    }
-    words::is_word(&line[at..], b"\n")
+    at <= line.len() && words::is_word(&line[at..], b"\n")
 }
 
 // ── What a field says ───────────────────────────────────────────────────────────────────────────────────────────────
 
-// A number without leading zeros.
-fn plain_number(w: &[u8]) -> Number
-    ensures { plain_number w.now ≡ number_shown result }
-{
-    if w.len() < 2 {
-        return words::read_number(w);
-    }
-    if w[0] <= 48 {
-        return Number::None;
-    }
-    words::read_number(w)
+// What a field can say.
+trait Said: Copy {
+    ghost said: { List ℕ → Option Self };
+
+    fn read(w: &[u8]) -> Option<Self>
+        ensures { result ≡ said w.now };
 }
 
-fn take_number(line: &[u8], at: usize) -> NumberField
-    ensures { taken plain_number line.now at ≡ number_taken line.now result }
-{
-    let Place::At(next) = next_end(line, at) else {
-        return NumberField::None;
-    };
-    let from = at + 1;
-    let Number::Is(n) = plain_number(&line[from..next]) else {
-        return NumberField::None;
-    };
-    NumberField::Is(n, next)
+// A number without leading zeros.
+impl Said for u64 {
+    ghost said = { plain_number };
+
+    fn read(w: &[u8]) -> Option<u64> {
+        if 2 <= w.len() && w[0] <= b'0' {
+            return None;
+        }
+        words::read_number(w)
+    }
 }
 
 // `adopted` or `waiting`.
-fn take_state(line: &[u8], at: usize) -> StateField
-    ensures { taken is_adopted line.now at ≡ state_taken line.now result }
-{
-    let Place::At(next) = next_end(line, at) else {
-        return StateField::None;
-    };
-    let from = at + 1;
-    let word = &line[from..next];
-    if words::is_word(word, b"adopted") {
-        return StateField::Is(true, next);
+impl Said for bool {
+    ghost said = { is_adopted };
+
+    fn read(w: &[u8]) -> Option<bool> {
+        if words::is_word(w, b"adopted") {
+            return Some(true);
+        }
+        if words::is_word(w, b"waiting") {
+            return Some(false);
+        }
+        None
     }
-    if words::is_word(word, b"waiting") {
-        return StateField::Is(false, next);
-    }
-    StateField::None
 }
 
-fn take_algorithm(line: &[u8], at: usize) -> AlgorithmField
-    ensures { taken algorithm_said line.now at ≡ algorithm_taken line.now result }
-{
-    let Place::At(next) = next_end(line, at) else {
-        return AlgorithmField::None;
-    };
-    let from = at + 1;
-    let word = &line[from..next];
-    if words::is_word(word, b"hmac-sha256") {
-        return AlgorithmField::Is(Algorithm::Sha256, next);
+impl Said for Algorithm {
+    ghost said = { algorithm_said };
+
+    fn read(w: &[u8]) -> Option<Algorithm> {
+        if words::is_word(w, b"hmac-sha256") {
+            return Some(Algorithm::Sha256);
+        }
+        if words::is_word(w, b"hmac-sha384") {
+            return Some(Algorithm::Sha384);
+        }
+        if words::is_word(w, b"hmac-sha512") {
+            return Some(Algorithm::Sha512);
+        }
+        None
     }
-    if words::is_word(word, b"hmac-sha384") {
-        return AlgorithmField::Is(Algorithm::Sha384, next);
-    }
-    if words::is_word(word, b"hmac-sha512") {
-        return AlgorithmField::Is(Algorithm::Sha512, next);
-    }
-    AlgorithmField::None
 }
 
-// A hexadecimal digit in upper case.
-fn is_upper(x: u8) -> bool
-    ensures { result ≡ is_upper x }
+// The field behind the tab at `at`.
+fn take<T: Said>(line: &[u8], at: usize) -> Option<Field<T>>
+    ensures { taken T.said line.now at ≡ field_shown line.now result }
 {
-    (65 <= x) & (x <= 70)
+    let next = next_end(line, at)?;
+    let said = T::read(&line[at + 1..next])?;
+    Some(Field { said, next })
 }
 
 fn no_upper(w: &[u8]) -> bool
     ensures { result ≡ no_upper w.now }
 {
-    let mut i = 0;
-    while i < w.len() {
-        if is_upper(w[i]) {
-            return false;
-        }
-        i += 1;
-    }
-    true
+    w.iter().all(|c| !(b'A' <= *c && *c <= b'F'))
 }
 
 // A suffix in lower-case hexadecimal, written to the front of out.
-fn suffix_into(w: &[u8], out: &mut [u8]) -> Octets
+fn suffix_into(w: &[u8], out: &mut [u8]) -> Option<usize>
     requires { 128 ≤ length out.old }
     ensures { OctetsRead (suffix_said w.now) out.old out.new result }
 {
-    if w.len() == 0 {
-        return Octets::None;
+    if w.is_empty() || 256 < w.len() || !no_upper(w) {
+        return None;
     }
-    if 256 < w.len() {
-        return Octets::None;
-    }
-    if no_upper(w) {
-        return words::unhex_into(w, out);
-    }
-    Octets::None
+    words::unhex_into(w, out)
 }
 
-fn take_suffix(line: &[u8], at: usize, suffix: &mut [u8]) -> SuffixField
+// The suffix behind the tab at `at`: how many octets it has.
+fn take_suffix(line: &[u8], at: usize, suffix: &mut [u8]) -> Option<Field<usize>>
     requires { 128 ≤ length suffix.old }
     ensures { SuffixTaken line.now at suffix.old suffix.new result }
 {
-    let Place::At(next) = next_end(line, at) else {
-        return SuffixField::None;
-    };
-    let from = at + 1;
-    let Octets::Count(n) = suffix_into(&line[from..next], suffix) else {
-        return SuffixField::None;
-    };
-    SuffixField::Is(n, next)
+    let next = next_end(line, at)?;
+    let said = suffix_into(&line[at + 1..next], suffix)?;
+    Some(Field { said, next })
 }
 
 // ── What a line says ────────────────────────────────────────────────────────────────────────────────────────────────
@@ -268,91 +187,67 @@ pub fn is_key_line(line: &[u8]) -> bool
     words::is_word(&line[..end], b"key")
 }
 
-pub fn read_clock(line: &[u8]) -> ClockLine
-    ensures { read_clock line.now ≡ clock_shown result }
+pub fn read_clock(line: &[u8]) -> Option<Clocked>
+    ensures { result ≡ read_clock line.now }
 {
-    let Place::At(first) = first_end(line, b"clock") else {
-        return ClockLine::Unread;
-    };
-    let NumberField::Is(clock, second) = take_number(line, first) else {
-        return ClockLine::Unread;
-    };
-    let NumberField::Is(floor, last) = take_number(line, second) else {
-        return ClockLine::Unread;
-    };
-    if is_end(line, last) {
-        return ClockLine::Is(Clocked { clock, floor });
+    let first = first_end(line, b"clock")?;
+    let clock = take::<u64>(line, first)?;
+    let floor = take::<u64>(line, clock.next)?;
+    if !is_end(line, floor.next) {
+        return None;
     }
-    ClockLine::Unread
+    Some(Clocked {
+        clock: clock.said,
+        floor: floor.said,
+    })
 }
 
-// Three numbers that end the line.
-fn last_numbers(line: &[u8], at: usize) -> Numbers
-    ensures { last_numbers line.now at ≡ numbers_shown result }
+// Three numbers that end the line: a pair's next serial, lifetime and fresh period, or a key's three times.
+fn last_numbers(line: &[u8], at: usize) -> Option<(u64, u64, u64)>
+    ensures { result ≡ last_numbers line.now at }
 {
-    let NumberField::Is(a, second) = take_number(line, at) else {
-        return Numbers::None;
-    };
-    let NumberField::Is(b, third) = take_number(line, second) else {
-        return Numbers::None;
-    };
-    let NumberField::Is(c, last) = take_number(line, third) else {
-        return Numbers::None;
-    };
-    if is_end(line, last) {
-        return Numbers::Are(a, b, c);
+    let a = take::<u64>(line, at)?;
+    let b = take::<u64>(line, a.next)?;
+    let c = take::<u64>(line, b.next)?;
+    if !is_end(line, c.next) {
+        return None;
     }
-    Numbers::None
+    Some((a.said, b.said, c.said))
 }
 
-// The suffix's octets are written to the front of the lent buffer. What else that holds afterwards is not said.
-pub fn read_pair(line: &[u8], suffix: &mut [u8]) -> PairLine
+// A pair that has no keys yet, and how many octets its suffix has: they are written to the front of the lent buffer. What else that holds afterwards is not
+// said.
+pub fn read_pair(line: &[u8], suffix: &mut [u8]) -> Option<(usize, Pair)>
     requires { 128 ≤ length suffix.old }
     ensures { PairRead line.now suffix.old suffix.new result }
 {
-    let Place::At(first) = first_end(line, b"pair") else {
-        return PairLine::Unread;
-    };
-    let SuffixField::Is(size, second) = take_suffix(line, first, suffix) else {
-        return PairLine::Unread;
-    };
-    let Numbers::Are(next_serial, lifetime, fresh) = last_numbers(line, second) else {
-        return PairLine::Unread;
-    };
-    PairLine::Is(
-        size,
+    let first = first_end(line, b"pair")?;
+    let size = take_suffix(line, first, suffix)?;
+    let (next_serial, lifetime, fresh) = last_numbers(line, size.next)?;
+    Some((
+        size.said,
         Pair {
             lifetime,
             fresh,
             next_serial,
             keys: Keys::Empty,
         },
-    )
+    ))
 }
 
-pub fn read_key(line: &[u8]) -> KeyLine
-    ensures { read_key line.now ≡ key_shown result }
+pub fn read_key(line: &[u8]) -> Option<Stated>
+    ensures { result ≡ read_key line.now }
 {
-    let Place::At(first) = first_end(line, b"key") else {
-        return KeyLine::Unread;
-    };
-    let StateField::Is(adopted, second) = take_state(line, first) else {
-        return KeyLine::Unread;
-    };
-    let NumberField::Is(serial, third) = take_number(line, second) else {
-        return KeyLine::Unread;
-    };
-    let AlgorithmField::Is(algorithm, fourth) = take_algorithm(line, third) else {
-        return KeyLine::Unread;
-    };
-    let Numbers::Are(inception, partial, expiry) = last_numbers(line, fourth) else {
-        return KeyLine::Unread;
-    };
-    KeyLine::Is(Stated {
-        adopted,
+    let first = first_end(line, b"key")?;
+    let adopted = take::<bool>(line, first)?;
+    let serial = take::<u64>(line, adopted.next)?;
+    let algorithm = take::<Algorithm>(line, serial.next)?;
+    let (inception, partial, expiry) = last_numbers(line, algorithm.next)?;
+    Some(Stated {
+        adopted: adopted.said,
         key: Key {
-            serial,
-            algorithm,
+            serial: serial.said,
+            algorithm: algorithm.said,
             inception,
             partial,
             expiry,

@@ -11,10 +11,9 @@ ghost use Rattle.listing.specs.Listed.{Lists};
 
 use model::{Key, Keys, Pair};
 
-// The listing's text, so many octets at the front of the buffer; or the table breaks a rule; or the listing is longer than the buffer.
+// Why there is no listing: the table breaks a rule, or the listing is longer than the buffer.
 #[derive(Clone, Copy)]
-pub enum Listed {
-    Text(usize),
+pub enum ListError {
     Broken,
     Long,
 }
@@ -24,9 +23,9 @@ fn clock_line(buf: &mut [u8], clock: u64, floor: u64) -> usize
     ensures { (result ≤ 48) × Wrote (clock_line clock floor) 0 buf.old buf.new result }
 {
     let next = octets::all_into(buf, 0, b"clock");
-    let next = text::number_field(buf, next, 9, clock);
-    let next = text::number_field(buf, next, 9, floor);
-    octets::u8_into(buf, next, 10)
+    let next = text::number_field(buf, next, b'\t', clock);
+    let next = text::number_field(buf, next, b'\t', floor);
+    octets::u8_into(buf, next, b'\n')
 }
 
 // Three numbers, the last fields of a line.
@@ -34,10 +33,10 @@ fn line_end(buf: &mut [u8], at: usize, x: u64, y: u64, z: u64) -> usize
     requires { at + 64 ≤ length buf.old }
     ensures { (result ≤ at + 64) × Wrote (parted_by 9 (numeral x ∷ numeral y ∷ numeral z ∷ [])) at buf.old buf.new result }
 {
-    let next = text::number_field(buf, at, 9, x);
-    let next = text::number_field(buf, next, 9, y);
-    let next = text::number_field(buf, next, 9, z);
-    octets::u8_into(buf, next, 10)
+    let next = text::number_field(buf, at, b'\t', x);
+    let next = text::number_field(buf, next, b'\t', y);
+    let next = text::number_field(buf, next, b'\t', z);
+    octets::u8_into(buf, next, b'\n')
 }
 
 fn pair_line(buf: &mut [u8], at: usize, suffix: &[u8], p: Pair) -> usize
@@ -56,7 +55,7 @@ fn key_line(buf: &mut [u8], at: usize, state: &[u8], k: Key) -> usize
 {
     let next = octets::all_into(buf, at, b"key\t");
     let next = octets::all_into(buf, next, state);
-    let next = text::number_field(buf, next, 9, k.serial);
+    let next = text::number_field(buf, next, b'\t', k.serial);
     let g = k.algorithm;
     let next = text::algorithm_field(buf, next, g);
     line_end(buf, next, k.inception, k.partial, k.expiry)
@@ -93,33 +92,33 @@ fn clock_into(buf: &mut [u8], clock: u64, floor: u64) -> usize
     requires { length (clock_line clock floor) ≤ length buf.old }
     ensures { Wrote (clock_line clock floor) 0 buf.old buf.new result }
 {
-    let mut scratch = [0u8; 48];
-    let n = clock_line(&mut scratch[..], clock, floor);
-    octets::part_into(buf, 0, &scratch[..], 0, n)
+    let mut scratch = [0; 48];
+    let n = clock_line(&mut scratch, clock, floor);
+    octets::part_into(buf, 0, &scratch, 0, n)
 }
 
 fn row_into(buf: &mut [u8], at: usize, suffix: &[u8], p: Pair) -> usize
     requires { (at + length (pair_line suffix.now p ++ key_lines p.keys) ≤ length buf.old) × (length suffix.now ≤ 128) }
     ensures { Wrote (pair_line suffix.now p ++ key_lines p.keys) at buf.old buf.new result }
 {
-    let mut scratch = [0u8; 541];
-    let n = row_lines(&mut scratch[..], 0, suffix, p);
-    octets::part_into(buf, at, &scratch[..], 0, n)
+    let mut scratch = [0; 541];
+    let n = row_lines(&mut scratch, 0, suffix, p);
+    octets::part_into(buf, at, &scratch, 0, n)
 }
 
 fn clock_size(clock: u64, floor: u64) -> usize
     ensures { (result ≤ 48) × (result ≡ length (clock_line clock floor)) }
 {
-    let mut scratch = [0u8; 48];
-    clock_line(&mut scratch[..], clock, floor)
+    let mut scratch = [0; 48];
+    clock_line(&mut scratch, clock, floor)
 }
 
 fn row_size(suffix: &[u8], p: Pair) -> usize
     requires { length suffix.now ≤ 128 }
     ensures { (result ≤ 541) × (result ≡ length (pair_line suffix.now p ++ key_lines p.keys)) }
 {
-    let mut scratch = [0u8; 541];
-    row_lines(&mut scratch[..], 0, suffix, p)
+    let mut scratch = [0; 541];
+    row_lines(&mut scratch, 0, suffix, p)
 }
 
 // How long the listing is, of a table that keeps the rules.
@@ -128,13 +127,10 @@ fn size(words: &[u64], suffixes: &[u8]) -> usize
     ensures { result ≡ length (listing (table_of words.now suffixes.now)) }
 {
     let mut total = clock_size(words[0], words[2]);
-    let n = words[1] as usize;
-    let mut i = 0;
-    while i < n {
+    for i in 0..words[1] as usize {
         let p = outcomes::pair_of(words, suffixes, i);
         let suffix = outcomes::suffix_of(words, suffixes, i);
         total += row_size(suffix, p);
-        i += 1;
     }
     total
 }
@@ -145,10 +141,7 @@ fn has_room(words: &[u64], suffixes: &[u8], room: usize) -> bool
     ensures { result ≡ leb (length (listing (table_of words.now suffixes.now))) room }
 {
     let n = words[1] as usize;
-    if 48 + 541 * n <= room {
-        return true;
-    }
-    size(words, suffixes) <= room
+    48 + 541 * n <= room || size(words, suffixes) <= room
 }
 
 // The listing of a table that keeps the rules, where there is room for it.
@@ -158,25 +151,23 @@ fn list_into(words: &[u64], suffixes: &[u8], buf: &mut [u8]) -> usize
 {
     let mut next = clock_into(buf, words[0], words[2]);
     let n = words[1] as usize;
-    let mut i: usize = 0;
-    while i < n {
+    for i in 0..n {
         let p = outcomes::pair_of(words, suffixes, i);
         let suffix = outcomes::suffix_of(words, suffixes, i);
         next = row_into(buf, next, suffix, p);
-        i += 1;
     }
     next
 }
 
-// Lists the table at the front of the buffer; a refusal leaves every octet of it.
-pub fn list(words: &[u64], suffixes: &[u8], buf: &mut [u8]) -> Listed
+// Lists the table at the front of the buffer, and answers how many octets the text has; a refusal leaves every octet of the buffer.
+pub fn list(words: &[u64], suffixes: &[u8], buf: &mut [u8]) -> Result<usize, ListError>
     ensures { Lists (table_of words.now suffixes.now) buf.old buf.new result }
 {
     if !ruling::rules_ok(words, suffixes) {
-        return Listed::Broken;
+        return Err(ListError::Broken);
     }
     if !has_room(words, suffixes, buf.len()) {
-        return Listed::Long;
+        return Err(ListError::Long);
     }
-    Listed::Text(list_into(words, suffixes, buf))
+    Ok(list_into(words, suffixes, buf))
 }

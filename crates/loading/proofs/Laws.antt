@@ -2,7 +2,7 @@
 use Prim.Native.Nat.{ℕ, zero, suc, ◌+◌, ◌-◌, ◌*◌, ◌/◌, ◌≤◌}
 use mathlib.Core.Bool.{Bool, true, false, ◌&&◌, false≢true}
 use mathlib.Core.Path.{◌≡◌, refl, sym, ap, ap₂, ◌∙◌, subst}
-use mathlib.Core.Option.{Option}
+use Rattle.std.specs.Prelude.{Option, None, Some, Result, Ok, Err}
 use mathlib.Core.List.{List, [], ◌∷◌, ◌++◌, append-nil, append_assoc}
 use lib.Dec.{eqb}
 use borrow.Author.Tests.{ne_eqb}
@@ -13,8 +13,9 @@ use lib.Seq.{length-take-le}
 use Rattle.model.specs.declared.Pair.{Pair}
 use Rattle.model.specs.Octets.{put}
 use Rattle.model.specs.Tables.{Table, Row}
-use Rattle.model.specs.Calls.{DONE, TABLE, LINE, with_row}
+use Rattle.model.specs.Calls.{with_row}
 use Rattle.model.specs.declared.Clocked.{Clocked}
+use Rattle.model.specs.declared.Stated.{Stated}
 use Rattle.model.specs.Lines.{lines_of, is_key_line, read_clock, read_key, read_pair}
 use Rattle.model.specs.Loading.{blocks_of, reads_as, unread_or, unread_from, Entry, unread, Judged, keeps, drops, Dropped, dropped_from, Kept, dropping, clocked_rule, Mended, mended_with, mended_by, mend_lines, mend}
 use Rattle.model.specs.Text.{line_of}
@@ -29,19 +30,15 @@ use Rattle.store.specs.Layout.{clock_of, floor_of, laid_table, layout_rule, tabl
 use Rattle.store.proofs.Laid.{shown}
 use Rattle.outcomes.proofs.Laws.{shown_clock}
 use Rattle.inserting.specs.Insert.{Ready, Inserted}
-use Rattle.lines.specs.declared.KeyLine.{KeyLine}
-use Rattle.lines.specs.declared.PairLine.{PairLine}
-use Rattle.lines.specs.declared.ClockLine.{ClockLine}
-use Rattle.lines.specs.Read.{clock_shown, key_shown, LineEnds, PairRead}
+use Rattle.lines.specs.Read.{LineEnds, PairRead}
 use Rattle.entries.specs.declared.Open.{Open}
 use Rattle.entries.specs.declared.Open.TheVariants.{Unread}
-use Rattle.entries.specs.declared.Judgement.{Judgement}
-use Rattle.entries.specs.declared.Judgement.TheVariants.{Keeps, Drops}
+use Rattle.entries.specs.declared.Kept as entries
 use Rattle.entries.specs.Entries.{entry_shown, open_size, KeyAdded, Begun, judged_shown, Insertable, EntryJudged}
 use Rattle.loading.specs.declared.Walk.{Walk}
-use Rattle.loading.specs.declared.Read.{Read}
+use Rattle.loading.specs.declared.Refusal.{Refusal}
+use Rattle.loading.specs.declared.Refusal.TheVariants as refusal
 use Rattle.loading.specs.Walk.{keeps_in, names_in, walked, named_words, Named, judged_in, Settled, LineAdded, PairStarted, rest_of, Turned, Walks, Reads, ReadsBelow}
-use Rattle.loading.specs.Loads.{unread_shown}
 use Rattle.loading.proofs.Walked.{walk_key, walk_other, walk_end, mend_walked}
 
 -- ── Dropped lines ───────────────────────────────────────────────────────────────────────────────────────────────────
@@ -114,14 +111,14 @@ shown_floor : (w s : List ℕ) → layout_rule w s ≡ true → (table_of w s).f
 unfolding laid_table
 shown_floor w s ok = ap (λ (t : Table). t.floor) (shown w s ok)
 
-module _ (w s suffix named : List ℕ) (x : Walk) (ok : layout_rule w s ≡ true) (r : Judgement) (j : EntryJudged w s suffix (entry_shown suffix x.said) r) where
-  pub insertable : (g n : ℕ) (p : Pair) → r ≡ Keeps g n p → (n ≤ length suffix) × Ready g (take n suffix) w s
-  insertable g n p e = subst (Insertable w s suffix) e j.ready
+module _ (w s suffix named : List ℕ) (x : Walk) (ok : layout_rule w s ≡ true) (r : Result entries.Kept ℕ) (j : EntryJudged w s suffix (entry_shown suffix x.said) r) where
+  pub insertable : (k : entries.Kept) → r ≡ Ok k → (k.size ≤ length suffix) × Ready k.place (take k.size suffix) w s
+  insertable k e = subst (Insertable w s suffix) e j.ready
 
-  pub settled_kept : (g n : ℕ) (p : Pair) → r ≡ Keeps g n p → {w' s' : List ℕ} → Inserted (take n suffix) p w s w' s' → Settled w s suffix named x w' s' named x.dropped
+  pub settled_kept : (k : entries.Kept) → r ≡ Ok k → {w' s' : List ℕ} → Inserted (take k.size suffix) k.pair w s w' s' → Settled w s suffix named x w' s' named x.dropped
   unfolding keeps_in names_in with_row
-  settled_kept g n p e {w'} {s'} i =
-      let is : judged_in w s suffix x ≡ keeps (record { suffix = take n suffix; pair = p }) = j.says ∙ ap (judged_shown suffix) e in
+  settled_kept k e {w'} {s'} i =
+      let is : judged_in w s suffix x ≡ keeps (record { suffix = take k.size suffix; pair = k.pair }) = j.says ∙ ap (judged_shown suffix) e in
       record {
         layout = i.layout;
         clock = sym (shown_clock w' s' i.layout) ∙ ap (λ (t : Table). t.clock) i.table ∙ shown_clock w s ok;
@@ -132,7 +129,7 @@ module _ (w s suffix named : List ℕ) (x : Walk) (ok : layout_rule w s ≡ true
         few = omega arith;
       }
 
-  pub settled_dropped : (reason : ℕ) → r ≡ Drops reason → {named' : List ℕ} → Named x.dropped (dropped_from reason x.first x.lines) named named' → Settled w s suffix named x w s named' (x.dropped + x.lines)
+  pub settled_dropped : (reason : ℕ) → r ≡ Err reason → {named' : List ℕ} → Named x.dropped (dropped_from reason x.first x.lines) named named' → Settled w s suffix named x w s named' (x.dropped + x.lines)
   unfolding keeps_in names_in
   settled_dropped reason e {named'} m =
       let is : judged_in w s suffix x ≡ drops reason = j.says ∙ ap (judged_shown suffix) e in
@@ -149,11 +146,11 @@ module _ (w s suffix named : List ℕ) (x : Walk) (ok : layout_rule w s ≡ true
 
 -- ── One line more ───────────────────────────────────────────────────────────────────────────────────────────────────
 
-pub line_added : (line : List ℕ) (x : Walk) {k : KeyLine} {more : Open} → read_key line ≡ key_shown k → KeyAdded x.said k more
+pub line_added : (line : List ℕ) (x : Walk) {k : Option Stated} {more : Open} → k ≡ read_key line → KeyAdded x.said k more
     → LineAdded line x (record { first = x.first; lines = x.lines + 1; dropped = x.dropped; said = more })
-line_added line x is a = record { first = refl; lines = omega arith; dropped = refl; fits = a.size; adds = λ s. a.adds s ∙ ap (entry_added (entry_shown s x.said)) (sym is) }
+line_added line x is a = record { first = refl; lines = omega arith; dropped = refl; fits = a.size; adds = λ s. a.adds s ∙ ap (entry_added (entry_shown s x.said)) is }
 
-pub pair_started : (line : List ℕ) {suffix suffix' : List ℕ} (first dropped : ℕ) {p : PairLine} {said : Open} → PairRead line suffix suffix' p → Begun p said
+pub pair_started : (line : List ℕ) {suffix suffix' : List ℕ} (first dropped : ℕ) {p : Option (ℕ × Pair)} {said : Open} → PairRead line suffix suffix' p → Begun p said
     → PairStarted line suffix suffix' first dropped (record { first = first; lines = 1; dropped = dropped; said = said })
 pair_started line {suffix} {suffix'} first dropped r b =
     record { first_is = refl; lines = refl; dropped_is = refl; size = r.size; fits = b.size 128 r.bound; begins = b.begins suffix' ∙ ap entry_begun (sym r.says) }
@@ -295,15 +292,13 @@ same_table : (t : Table) {clock floor : ℕ} → t.clock ≡ clock → t.floor �
 same_table t e f = λ i. record { clock = e i; floor = f i; rows = t.rows }
 
 module _ (text : List ℕ) (from : ℕ) (c : Clocked) where
-  pub below_broken : clocked_rule c ≡ false → (w s named : List ℕ) → ReadsBelow text from c w s named named (record { number = 1; dropped = 0 })
-  unfolding TABLE
+  pub below_broken : clocked_rule c ≡ false → (w s named : List ℕ) → ReadsBelow text from c w s named named (Err refusal.Table)
   below_broken rule w s named = rw rule refl
 
   pub below_done :
       clocked_rule c ≡ true → {w₁ s named w' s' named' : List ℕ} {dropped : ℕ}
       → Cleared c.clock c.floor w₁ → length s ≡ 8192 → Walks text from w₁ s named w' s' named' dropped
-      → ReadsBelow text from c w' s' named named' (record { number = 0; dropped = dropped })
-  unfolding DONE
+      → ReadsBelow text from c w' s' named named' (Ok dropped)
   below_done rule {w₁} {s} {named} {w'} {s'} {named'} {dropped} cleared octets v =
       let first = cleared.table s octets in
       let ok = cleared.layout s octets in
@@ -314,8 +309,8 @@ module _ (text : List ℕ) (from : ℕ) (c : Clocked) where
       same_table (table_of w' s') (shown_clock w' s' v.layout ∙ v.clock ∙ clock) (shown_floor w' s' v.layout ∙ v.floor ∙ floor) in
       let is : walked c.clock [] 2 0 unread (lines_of (drop from text)) ≡ record { rows = (table_of w' s').rows; dropped = v.ds } =
       ap₂ (λ (n : ℕ) (rs : List Row). walked n rs 2 0 unread (lines_of (drop from text))) (sym clock) (sym rows) ∙ v.walks in
-      subst (λ (m : Mended). Reads m w' s' named named' (record { number = 0; dropped = dropped })) (sym (mend_walked (lines_of (drop from text)) c rule ∙ ap (mended_with c) is))
-      (refl, left, v.count, v.names)
+      subst (λ (m : Mended). Reads m w' s' named named' (Ok dropped)) (sym (mend_walked (lines_of (drop from text)) c rule ∙ ap (mended_with c) is))
+      (left, ap Ok v.count, v.names)
 
 clock_long : (clock floor : ℕ) → 2 ≤ length (clock_line clock floor)
 unfolding clock_line tabbed line_of
@@ -327,33 +322,32 @@ no_octets (x ∷ xs) e = absurd (omega (arith, e))
 
 -- By the first line.
 module _ (text : List ℕ) where
-  pub mend_empty : length text ≡ 0 → (w s named : List ℕ) → Reads (mend text) w s named named (record { number = 18; dropped = 0 })
-  unfolding mend mend_lines lines_of LINE
-  mend_empty h w s named = subst (λ (x : List ℕ). Reads (mend x) w s named named (record { number = 18; dropped = 0 })) (sym (no_octets text h)) refl
+  pub mend_empty : length text ≡ 0 → (w s named : List ℕ) → Reads (mend text) w s named named (Err refusal.Line)
+  unfolding mend mend_lines lines_of
+  mend_empty h w s named = subst (λ (x : List ℕ). Reads (mend x) w s named named (Err refusal.Line)) (sym (no_octets text h)) refl
 
   module _ (end : ℕ) (l : LineEnds text 0 end) where
     pub first_line : lines_of text ≡ take end text ∷ lines_of (drop end text)
     first_line = l.line ∙ ap (λ (x : List ℕ). x ∷ lines_of (drop end text)) (from_start end text)
 
-    mend_by : (r : ClockLine) → read_clock (take end text) ≡ clock_shown r → mend text ≡ mended_by (clock_shown r) (blocks_of (lines_of (drop end text)))
+    mend_by : (r : Option Clocked) → r ≡ read_clock (take end text) → mend text ≡ mended_by r (blocks_of (lines_of (drop end text)))
     unfolding mend mend_lines
-    mend_by r is = ap mend_lines first_line ∙ ap (λ (o : Option Clocked). mended_by o (blocks_of (lines_of (drop end text)))) is
+    mend_by r is = ap mend_lines first_line ∙ ap (λ (o : Option Clocked). mended_by o (blocks_of (lines_of (drop end text)))) (sym is)
 
-    pub first_long : (r : ClockLine) (c : Clocked) → read_clock (take end text) ≡ clock_shown r → r ≡ ClockLine.Is c → 2 ≤ end
+    pub first_long : (r : Option Clocked) (c : Clocked) → r ≡ read_clock (take end text) → r ≡ Some c → 2 ≤ end
     first_long r c is e =
-        let long = subst (λ (x : List ℕ). 2 ≤ length x) (sym (clock_is (take end text) c (is ∙ ap clock_shown e))) (clock_long c.clock c.floor) in
+        let long = subst (λ (x : List ℕ). 2 ≤ length x) (sym (clock_is (take end text) c (sym is ∙ e))) (clock_long c.clock c.floor) in
         omega (arith, long, length-take-le end text l.within)
 
-    pub first_unread_lem : (r : ClockLine) → read_clock (take end text) ≡ clock_shown r → r ≡ ClockLine.Unread → (w s named : List ℕ) → Reads (mend text) w s named named (record { number = 18; dropped = 0 })
-    unfolding LINE
+    pub first_unread_lem : (r : Option Clocked) → r ≡ read_clock (take end text) → r ≡ None → (w s named : List ℕ) → Reads (mend text) w s named named (Err refusal.Line)
     first_unread_lem r is e w s named =
-        subst (λ (m : Mended). Reads m w s named named (record { number = 18; dropped = 0 })) (sym (mend_by r is ∙ ap (λ (r : ClockLine). mended_by (clock_shown r) (blocks_of (lines_of (drop end text)))) e)) refl
+        subst (λ (m : Mended). Reads m w s named named (Err refusal.Line)) (sym (mend_by r is ∙ ap (λ (r : Option Clocked). mended_by r (blocks_of (lines_of (drop end text)))) e)) refl
 
     pub first_read :
-        (r : ClockLine) (c : Clocked) → read_clock (take end text) ≡ clock_shown r → r ≡ ClockLine.Is c → (w s named named' : List ℕ) (a : Read)
+        (r : Option Clocked) (c : Clocked) → r ≡ read_clock (take end text) → r ≡ Some c → (w s named named' : List ℕ) (a : Result ℕ Refusal)
         → ReadsBelow text end c w s named named' a → Reads (mend text) w s named named' a
     first_read r c is e w s named named' a b =
-        subst (λ (m : Mended). Reads m w s named named' a) (sym (mend_by r is ∙ ap (λ (r : ClockLine). mended_by (clock_shown r) (blocks_of (lines_of (drop end text)))) e)) b
+        subst (λ (m : Mended). Reads m w s named named' a) (sym (mend_by r is ∙ ap (λ (r : Option Clocked). mended_by r (blocks_of (lines_of (drop end text)))) e)) b
 
 -- ── The first line that does not read ───────────────────────────────────────────────────────────────────────────────
 
@@ -373,8 +367,8 @@ module _ (text : List ℕ) (from at n : ℕ) (whole : unread_from true 2 (lines_
   unfolding unread_from
   opened_line l = whole ∙ ap (unread_from (eqb n 2) n) l.line
 
-  pub unread_here : (end : ℕ) → LineEnds text at end → reads_as (is_key_line (here end)) (eqb n 2) (here end) ≡ false → 2 ≤ n → unread_from true 2 (lines_of (drop from text)) ≡ unread_shown n
-  unread_here end l e h = opened_line l ∙ rw (e, ne_eqb n 0 (λ z. omega (arith, z, h))) refl
+  pub unread_here : (end : ℕ) → LineEnds text at end → reads_as (is_key_line (here end)) (eqb n 2) (here end) ≡ false → 2 ≤ n → unread_from true 2 (lines_of (drop from text)) ≡ Some n
+  unread_here end l e h = opened_line l ∙ rw e refl
 
   pub unread_next : (end : ℕ) → LineEnds text at end → reads_as (is_key_line (here end)) (eqb n 2) (here end) ≡ true → 2 ≤ n
       → unread_from true 2 (lines_of (drop from text)) ≡ unread_from (eqb (n + 1) 2) (n + 1) (lines_of (drop end text))
@@ -385,7 +379,7 @@ module _ (text : List ℕ) (from at n : ℕ) (whole : unread_from true 2 (lines_
       (reads_below (is_key_line (here end)) (eqb n 2) (here end) e ∙ sym (ne_eqb (n + 1) 2 (λ z. omega (arith, z, h))))
       (sym (add-one n)))
 
-  pub unread_end : length text ≤ at → unread_from true 2 (lines_of (drop from text)) ≡ unread_shown 0
+  pub unread_end : length text ≤ at → unread_from true 2 (lines_of (drop from text)) ≡ None
   unfolding lines_of unread_from
   unread_end h = whole ∙ ap (λ (x : List ℕ). unread_from (eqb n 2) n (lines_of x)) (drop_of_length-le text h)
 

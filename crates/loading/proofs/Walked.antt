@@ -1,7 +1,7 @@
 -- Walking a listing line by line is mending it. Assumes nothing.
 use mathlib.Core.Path.{◌≡◌, refl, sym, ap, ap₂, ◌∙◌}
 use mathlib.Core.Bool.{Bool, true, false}
-use mathlib.Core.Option.{some}
+use Rattle.std.specs.Prelude.{Some}
 use mathlib.Core.List.{List, [], ◌∷◌, ◌++◌, append-nil}
 use Prim.Native.Nat.{ℕ, suc, ◌+◌}
 use native.Mathlib.Omega.{arith}
@@ -124,7 +124,7 @@ walk_loose clock kept n k (l ∷ ls) = go (is_key_line l) refl (walk_loose clock
         ∙ ap (λ (k : ℕ). dropping (dropped_from LINE n k) (kept_from clock kept (n + k) (opened c ls))) z
 
 -- A listing whose clock line keeps its rules.
-pub mend_walked : (ls : List (List ℕ)) (c : Clocked) → clocked_rule c ≡ true → mended_by (some c) (blocks_of ls) ≡ mended_with c (walked c.clock [] 2 0 unread ls)
+pub mend_walked : (ls : List (List ℕ)) (c : Clocked) → clocked_rule c ≡ true → mended_by (Some c) (blocks_of ls) ≡ mended_with c (walked c.clock [] 2 0 unread ls)
 mend_walked ls c rule =
     let b = blocks_of ls in
     let z : length b.loose ≡ 0 + length b.loose = omega arith in

@@ -1,6 +1,5 @@
 -- What loading and mending leave of what is lent. Assumes nothing.
-use Rattle.std.specs.Prelude.{ℕ, ◌/◌, Bool, true, false, cond, ◌&&◌, ◌≡◌, List, [], eqb, length}
-use Rattle.std.proofs.Math.Option.{Option, none, some}
+use Rattle.std.specs.Prelude.{ℕ, ◌/◌, Bool, true, false, cond, ◌&&◌, ◌≡◌, List, [], eqb, length, Result, Ok, Err}
 use Rattle.model.specs.Octets.{put}
 use Rattle.model.specs.Tables.{Table}
 use Rattle.model.specs.Calls.{DONE, TABLE, LINE}
@@ -8,12 +7,9 @@ use Rattle.model.specs.Loading.{Loaded, no_line, no_table, loaded, load, load_nu
 use Rattle.store.specs.Layout.{table_of}
 use Rattle.loading.specs.declared.Ended.{Ended}
 use Rattle.loading.specs.declared.Mending.{Mending}
-use Rattle.loading.specs.declared.Read.{Read}
+use Rattle.loading.specs.declared.Refusal.{Refusal}
+use Rattle.loading.specs.declared.Refusal.TheVariants as refusal
 use Rattle.loading.specs.Walk.{named_words}
-
--- A line's number; 0 for none.
-abbrev pub unread_shown : ℕ → Option ℕ
-unread_shown n = cond (eqb n 0) none (some n)
 
 -- ── Loading ─────────────────────────────────────────────────────────────────────────────────────────────────────────
 
@@ -50,12 +46,12 @@ pub record Kept (w s words suffixes words' suffixes' : List ℕ) (r : ℕ) : Typ
 
 -- ── Mending ─────────────────────────────────────────────────────────────────────────────────────────────────────────
 
--- The numbers of a mending whose table is not kept.
-abbrev pub Counted : Mended → Read → Type 0
-Counted no_clock r = r.number ≡ LINE
-Counted no_rule r = r.number ≡ TABLE
+-- How a mending ends whose table is not kept.
+abbrev pub Counted : Mended → Result ℕ Refusal → Type 0
+Counted no_clock r = r ≡ Err refusal.Line
+Counted no_rule r = r ≡ Err refusal.Table
 Counted no_room r = ⊥
-Counted (mended t ds) r = (r.number ≡ DONE) × (r.dropped ≡ length ds)
+Counted (mended t ds) r = r ≡ Ok (length ds)
 
 abbrev pub refused_with : ℕ → Mending
 refused_with n = record { number = n; line = cond (eqb n LINE) 1 0; dropped = 0 }

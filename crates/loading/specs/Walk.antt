@@ -1,9 +1,7 @@
 -- A listing read line by line: the code's own way through the definitions of model's Loading, which `walk_loose` of proofs/Walked ties to them. Assumes nothing.
-use Rattle.std.specs.Prelude.{ℕ, suc, ◌+◌, ◌*◌, ◌≤◌, true, false, ◌≡◌, List, [], ◌∷◌, ◌++◌, length, drop}
-use Rattle.std.proofs.Math.Option.{some}
+use Rattle.std.specs.Prelude.{ℕ, suc, ◌+◌, ◌*◌, ◌≤◌, true, false, ◌≡◌, List, [], ◌∷◌, ◌++◌, length, drop, Some, Result, Ok, Err}
 use Rattle.model.specs.declared.Clocked.{Clocked}
 use Rattle.model.specs.Tables.{Row}
-use Rattle.model.specs.Calls.{DONE, TABLE, LINE}
 use Rattle.model.specs.Lines.{lines_of, is_key_line, read_pair, read_key}
 use Rattle.model.specs.Loading.{Entry, unread, Judged, keeps, drops, judged, Dropped, dropped_from, Kept, dropping, blocks_of, Mended, no_clock, no_rule, no_room, mended, mended_by}
 use Rattle.model.proofs.Forward.{entry_begun, entry_added}
@@ -11,7 +9,8 @@ use Rattle.octets.specs.Wrote.{Wrote}
 use Rattle.store.specs.Layout.{clock_of, floor_of, layout_rule, table_of}
 use Rattle.entries.specs.Entries.{entry_shown, open_size}
 use Rattle.loading.specs.declared.Walk.{Walk}
-use Rattle.loading.specs.declared.Read.{Read}
+use Rattle.loading.specs.declared.Refusal.{Refusal}
+use Rattle.loading.specs.declared.Refusal.TheVariants as refusal
 
 -- ── The walk ────────────────────────────────────────────────────────────────────────────────────────────────────────
 
@@ -106,12 +105,12 @@ pub record Walks (text : List ℕ) (at : ℕ) (w s named w' s' named' : List ℕ
 -- ── The whole text ──────────────────────────────────────────────────────────────────────────────────────────────────
 
 -- What mending is, as the code ends: the table that the words and octets show, and the lines that are named. (ROOM is tested by the caller.)
-abbrev pub Reads : Mended → List ℕ → List ℕ → List ℕ → List ℕ → Read → Type 0
-Reads no_clock w s named named' r = r.number ≡ LINE
-Reads no_rule w s named named' r = r.number ≡ TABLE
+abbrev pub Reads : Mended → List ℕ → List ℕ → List ℕ → List ℕ → Result ℕ Refusal → Type 0
+Reads no_clock w s named named' r = r ≡ Err refusal.Line
+Reads no_rule w s named named' r = r ≡ Err refusal.Table
 Reads no_room w s named named' r = ⊥
-Reads (mended t ds) w s named named' r = (r.number ≡ DONE) × (table_of w s ≡ t) × (r.dropped ≡ length ds) × Named 0 ds named named'
+Reads (mended t ds) w s named named' r = (table_of w s ≡ t) × (r ≡ Ok (length ds)) × Named 0 ds named named'
 
 -- The same of the lines below line 1, which said the clock and the floor c.
-abbrev pub ReadsBelow : List ℕ → ℕ → Clocked → List ℕ → List ℕ → List ℕ → List ℕ → Read → Type 0
-ReadsBelow text at c w s named named' r = Reads (mended_by (some c) (blocks_of (lines_of (drop at text)))) w s named named' r
+abbrev pub ReadsBelow : List ℕ → ℕ → Clocked → List ℕ → List ℕ → List ℕ → List ℕ → Result ℕ Refusal → Type 0
+ReadsBelow text at c w s named named' r = Reads (mended_by (Some c) (blocks_of (lines_of (drop at text)))) w s named named' r

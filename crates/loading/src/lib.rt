@@ -8,10 +8,9 @@ ghost use Rattle.model.proofs.Forward.{loaded_from};
 ghost use Rattle.store.specs.Layout.{layout_rule};
 ghost use Rattle.entries.specs.Entries.{open_size};
 ghost use Rattle.loading.specs.Walk.{Named, Settled, LineAdded, PairStarted, Turned, Walks, ReadsBelow, Reads};
-ghost use Rattle.loading.specs.Loads.{unread_shown, end_of, Kept, Loads, Counted, refused_with, Mends};
+ghost use Rattle.loading.specs.Loads.{end_of, Kept, Loads, Counted, refused_with, Mends};
 
-use entries::{Judgement, Open};
-use lines::{ClockLine, KeyLine, PairLine};
+use entries::Open;
 use model::Clocked;
 
 // The pair that is open: the number of its first line, how many lines it has so far and what they say; and how many lines were dropped before it.
@@ -38,11 +37,11 @@ pub struct Mending {
     pub dropped: usize,
 }
 
-// What a text was read as: LINE, TABLE or 0, and how many lines were dropped.
+// Why a text is not mended: its first line does not read, or breaks a rule.
 #[derive(Clone, Copy)]
-pub struct Read {
-    pub number: u64,
-    pub dropped: usize,
+enum Refusal {
+    Line,
+    Table,
 }
 
 // ── Dropped lines ───────────────────────────────────────────────────────────────────────────────────────────────────
@@ -63,10 +62,8 @@ fn name_lines(named: &mut [u64], before: usize, first: usize, lines: usize, reas
     requires { (before + lines < 0x1_0000_0000_0000_0000) × (first + lines < 0x1_0000_0000_0000_0000) }
     ensures { Named before (dropped_from reason first lines) named.old named.new }
 {
-    let mut i: usize = 0;
-    while i < lines {
+    for i in 0..lines {
         name_line(named, before + i, first + i, reason);
-        i += 1;
     }
 }
 
@@ -83,13 +80,12 @@ fn settle(
     requires { (layout_rule words.old suffixes.old ≡ true) × (open_size w.said ≤ length suffix.now) × (w.dropped + w.lines < 0x1_0000_0000_0000_0000) × (w.first + w.lines < 0x1_0000_0000_0000_0000) }
     ensures { Settled words.old suffixes.old suffix.now named.old w words.new suffixes.new named.new result }
 {
-    let said = w.said;
-    match entries::judge(words, suffixes, suffix, said) {
-        Judgement::Keeps(place, n, p) => {
-            inserting::insert(words, suffixes, place, &suffix[..n], p);
+    match entries::judge(words, suffixes, suffix, w.said) {
+        Ok(k) => {
+            inserting::insert(words, suffixes, k.place, &suffix[..k.size], k.pair);
             w.dropped
         }
-        Judgement::Drops(reason) => {
+        Err(reason) => {
             name_lines(named, w.dropped, w.first, w.lines, reason);
             w.dropped + w.lines
         }
@@ -103,10 +99,10 @@ fn start_pair(suffix: &mut [u8], line: &[u8], first: usize, dropped: usize) -> W
 {
     let said = entries::begin(lines::read_pair(line, suffix));
     Walk {
-        first: first,
+        first,
         lines: 1,
-        dropped: dropped,
-        said: said,
+        dropped,
+        said,
     }
 }
 
@@ -115,13 +111,10 @@ fn add_line(line: &[u8], w: Walk) -> Walk
     requires { w.lines + 1 < 0x1_0000_0000_0000_0000 }
     ensures { LineAdded line.now w result }
 {
-    let said = w.said;
-    let more = entries::add_key(said, lines::read_key(line));
     Walk {
-        first: w.first,
         lines: w.lines + 1,
-        dropped: w.dropped,
-        said: more,
+        said: entries::add_key(w.said, lines::read_key(line)),
+        ..w
     }
 }
 
@@ -155,7 +148,7 @@ fn walk_lines(
     requires { (layout_rule words.old suffixes.old ≡ true) × (2 ≤ from) × (from ≤ length text.now) }
     ensures { Walks text.now from words.old suffixes.old named.old words.new suffixes.new named.new result }
 {
-    let mut suffix = [0u8; 128];
+    let mut suffix = [0; 128];
     let mut at = from;
     let mut w = Walk {
         first: 2,
@@ -165,10 +158,10 @@ fn walk_lines(
     };
     while at < text.len() {
         let end = lines::line_end(text, at);
-        w = turn(words, suffixes, named, &mut suffix[..], &text[at..end], w);
+        w = turn(words, suffixes, named, &mut suffix, &text[at..end], w);
         at = end;
     }
-    settle(words, suffixes, named, &suffix[..], w)
+    settle(words, suffixes, named, &suffix, w)
 }
 
 // ── The whole text ──────────────────────────────────────────────────────────────────────────────────────────────────
@@ -180,7 +173,7 @@ fn clock_ok(c: Clocked) -> bool
     (c.clock < 0x1_0000_0000_0000) & (1 <= c.floor) & (c.floor <= 0x1_0000_0000)
 }
 
-// The lines below the clock line, into a table with its clock and floor; TABLE where these break a rule.
+// The lines below the clock line, into a table with its clock and floor. Returns how many were dropped.
 fn read_below(
     text: &[u8],
     from: usize,
@@ -188,42 +181,34 @@ fn read_below(
     words: &mut [u64],
     suffixes: &mut [u8],
     named: &mut [u64],
-) -> Read
+) -> Result<usize, Refusal>
     requires { (length words.old ≡ 1091) × (length suffixes.old ≡ 8192) × (2 ≤ from) × (from ≤ length text.now) }
     ensures { ReadsBelow text.now from c words.new suffixes.new named.old named.new result }
 {
     if !clock_ok(c) {
-        return Read {
-            number: 1,
-            dropped: 0,
-        };
+        return Err(Refusal::Table);
     }
     store::clear(words, c.clock, c.floor);
-    let dropped = walk_lines(text, from, words, suffixes, named);
-    Read {
-        number: 0,
-        dropped: dropped,
-    }
+    Ok(walk_lines(text, from, words, suffixes, named))
 }
 
-// Mends the text into the words and octets, whatever they held: LINE for the first line, TABLE for the first line's rules, or 0; and how many lines were dropped.
-fn read_into(text: &[u8], words: &mut [u64], suffixes: &mut [u8], named: &mut [u64]) -> Read
+// Mends the text into the words and octets, whatever they held. Returns how many lines were dropped.
+fn read_into(
+    text: &[u8],
+    words: &mut [u64],
+    suffixes: &mut [u8],
+    named: &mut [u64],
+) -> Result<usize, Refusal>
     requires { (length words.old ≡ 1091) × (length suffixes.old ≡ 8192) }
     ensures { Reads (mendOf text.now) words.new suffixes.new named.old named.new result }
 {
-    if text.len() == 0 {
-        return Read {
-            number: 18,
-            dropped: 0,
-        };
+    if text.is_empty() {
+        return Err(Refusal::Line);
     }
     let end = lines::line_end(text, 0);
     match lines::read_clock(&text[..end]) {
-        ClockLine::Is(c) => read_below(text, end, c, words, suffixes, named),
-        ClockLine::Unread => Read {
-            number: 18,
-            dropped: 0,
-        },
+        Some(c) => read_below(text, end, c, words, suffixes, named),
+        None => Err(Refusal::Line),
     }
 }
 
@@ -235,79 +220,56 @@ fn reads_as(line: &[u8], top: bool, suffix: &mut [u8]) -> bool
     ensures { (result ≡ reads_as (is_key_line line.now) top line.now) × (length suffix.new ≡ length suffix.old) }
 {
     if lines::is_key_line(line) {
-        if top {
-            return false;
-        }
-        return match lines::read_key(line) {
-            KeyLine::Is(_) => true,
-            KeyLine::Unread => false,
-        };
+        return !top && lines::read_key(line).is_some();
     }
-    match lines::read_pair(line, suffix) {
-        PairLine::Is(_, _) => true,
-        PairLine::Unread => false,
-    }
+    lines::read_pair(line, suffix).is_some()
 }
 
-// Of the lines from a place on, which follow line 1; 0 for none.
-fn unread_below(text: &[u8], from: usize) -> usize
+// Of the lines from a place on, which follow line 1.
+fn unread_below(text: &[u8], from: usize) -> Option<usize>
     requires { (2 ≤ from) × (from ≤ length text.now) }
-    ensures { unread_from true 2 (lines_of (drop from text.now)) ≡ unread_shown result }
+    ensures { result ≡ unread_from true 2 (lines_of (drop from text.now)) }
 {
-    let mut suffix = [0u8; 128];
+    let mut suffix = [0; 128];
     let mut at = from;
     let mut n: usize = 2;
     while at < text.len() {
         let end = lines::line_end(text, at);
-        if !reads_as(&text[at..end], n == 2, &mut suffix[..]) {
-            return n;
+        if !reads_as(&text[at..end], n == 2, &mut suffix) {
+            return Some(n);
         }
         n += 1;
         at = end;
     }
-    0
+    None
 }
 
-// Of the whole text; 0 for none.
-fn first_unread(text: &[u8]) -> usize
-    ensures { first_unread (lines_of text.now) ≡ unread_shown result }
+// Of the whole text.
+fn first_unread(text: &[u8]) -> Option<usize>
+    ensures { result ≡ first_unread (lines_of text.now) }
 {
-    if text.len() == 0 {
-        return 1;
+    if text.is_empty() {
+        return Some(1);
     }
     let end = lines::line_end(text, 0);
     match lines::read_clock(&text[..end]) {
-        ClockLine::Is(_) => unread_below(text, end),
-        ClockLine::Unread => 1,
+        Some(_) => unread_below(text, end),
+        None => Some(1),
     }
 }
 
 // ── The calls ───────────────────────────────────────────────────────────────────────────────────────────────────────
-
-fn copy_words(to: &mut [u64], from: &[u64])
-    requires { length from.now ≡ length to.old }
-    ensures { to.new ≡ from.now }
-{
-    let mut i = 0;
-    while i < from.len() {
-        to[i] = from[i];
-        i += 1;
-    }
-}
 
 // Puts a table into lent words and octets: TABLE where these have not a table's lengths.
 fn keep(words: &mut [u64], suffixes: &mut [u8], w: &[u64], s: &[u8]) -> u64
     requires { (length w.now ≡ 1091) × (length s.now ≡ 8192) }
     ensures { Kept w.now s.now words.old suffixes.old words.new suffixes.new result }
 {
-    if words.len() != 1091 {
+    if words.len() != 1091 || suffixes.len() != 8192 {
         return 1;
     }
-    if suffixes.len() != 8192 {
-        return 1;
-    }
-    copy_words(words, w);
-    octets::all_into(suffixes, 0, s);
+    words.copy_from_slice(w);
+    suffixes.copy_from_slice(s);
     0
 }
 
@@ -315,13 +277,12 @@ fn keep(words: &mut [u64], suffixes: &mut [u8], w: &[u64], s: &[u8]) -> u64
 fn load_refused(text: &[u8]) -> Ended
     ensures { result ≡ end_of (loaded_from (first_unread (lines_of text.now)) no_rule) }
 {
-    let n = first_unread(text);
-    if n == 0 {
-        return Ended { number: 1, line: 0 };
-    }
-    Ended {
-        number: 18,
-        line: n as u64,
+    match first_unread(text) {
+        Some(n) => Ended {
+            number: 18,
+            line: n as u64,
+        },
+        None => Ended { number: 1, line: 0 },
     }
 }
 
@@ -330,48 +291,37 @@ fn load_refused(text: &[u8]) -> Ended
 pub fn load(text: &[u8], words: &mut [u64], suffixes: &mut [u8]) -> Ended
     ensures { Loads text.now words.old suffixes.old words.new suffixes.new result }
 {
-    let mut w = [0u64; 1091];
-    let mut s = [0u8; 8192];
-    let mut none = [0u64; 1];
-    let read = read_into(text, &mut w[..], &mut s[..], &mut none[..]);
-    let number = read.number;
-    let dropped = read.dropped;
-    if number != 0 {
+    let mut w = [0; 1091];
+    let mut s = [0; 8192];
+    let mut none = [0; 1];
+    let Ok(dropped) = read_into(text, &mut w, &mut s, &mut none) else {
         return load_refused(text);
-    }
+    };
     if dropped != 0 {
         return load_refused(text);
     }
-    let kept = keep(words, suffixes, &w[..], &s[..]);
     Ended {
-        number: kept,
+        number: keep(words, suffixes, &w, &s),
         line: 0,
     }
 }
 
 // The text mended into a table that is not kept.
-fn mendable(text: &[u8]) -> Read
+fn mendable(text: &[u8]) -> Result<usize, Refusal>
     ensures { Counted (mendOf text.now) result }
 {
-    let mut w = [0u64; 1091];
-    let mut s = [0u8; 8192];
-    let mut none = [0u64; 1];
-    read_into(text, &mut w[..], &mut s[..], &mut none[..])
+    let mut w = [0; 1091];
+    let mut s = [0; 8192];
+    let mut none = [0; 1];
+    read_into(text, &mut w, &mut s, &mut none)
 }
 
 fn mend_refused(number: u64) -> Mending
     ensures { result ≡ refused_with number }
 {
-    if number == 18 {
-        return Mending {
-            number: 18,
-            line: 1,
-            dropped: 0,
-        };
-    }
     Mending {
-        number: number,
-        line: 0,
+        number,
+        line: if number == 18 { 1 } else { 0 },
         dropped: 0,
     }
 }
@@ -382,25 +332,21 @@ fn mend_refused(number: u64) -> Mending
 pub fn mend(text: &[u8], words: &mut [u64], suffixes: &mut [u8], named: &mut [u64]) -> Mending
     ensures { Mends text.now words.old suffixes.old named.old words.new suffixes.new named.new result }
 {
-    let read = mendable(text);
-    let number = read.number;
-    let dropped = read.dropped;
-    if number != 0 {
-        return mend_refused(number);
-    }
-    if words.len() != 1091 {
-        return mend_refused(1);
-    }
-    if suffixes.len() != 8192 {
+    let dropped = match mendable(text) {
+        Ok(n) => n,
+        Err(Refusal::Line) => return mend_refused(18),
+        Err(Refusal::Table) => return mend_refused(1),
+    };
+    if words.len() != 1091 || suffixes.len() != 8192 {
         return mend_refused(1);
     }
     if named.len() / 2 < dropped {
         return mend_refused(8);
     }
-    read_into(text, words, suffixes, named);
+    let _ = read_into(text, words, suffixes, named);
     Mending {
         number: 0,
         line: 0,
-        dropped: dropped,
+        dropped,
     }
 }

@@ -2,7 +2,8 @@
 use Prim.Native.Nat.{ℕ, ◌+◌, ◌<◌}
 use mathlib.Core.Path.{◌≡◌, refl, ap, ap₂, subst, ◌∙◌}
 use mathlib.Core.Bool.{Bool, true, false, cond}
-use mathlib.Core.Option.{Option, none, some, none-ne-some}
+use Rattle.std.specs.Prelude.{Option, None, Some, Result, Ok, Err}
+use Rattle.std.proofs.lemmas.Option.{none-some}
 use mathlib.Core.List.{List}
 use native.Mathlib.Omega.{arith}
 use lib.ListN.{length, length-map}
@@ -19,23 +20,20 @@ use Rattle.model.proofs.CallLaws.{holder_by}
 use Rattle.tsig.specs.declared.Signer.{Signer}
 use Rattle.tsig.specs.Signature.{shown as signerShown, SignerFits}
 use Rattle.contents.specs.declared.Contents.{Contents}
-use Rattle.contents.specs.declared.Reading.{Reading as Read}
-use Rattle.contents.specs.declared.Reading.TheVariants.{Size, Broken, Whole}
+use Rattle.contents.specs.declared.Unread.{Unread}
+use Rattle.contents.specs.declared.Unread.TheVariants.{Size, Broken}
 use Rattle.contents.specs.Contents.{ContentsRead, ReadAs}
 use Rattle.store.specs.Layout.{table_of}
 
 -- ── Whose message ───────────────────────────────────────────────────────────────────────────────────────────────────
 
-module _ (n : List (List ℕ)) (m : List ℕ) (r : Read) (q : ReadAs m r) where
-  pub owner_size : r ≡ Size → octets_owner n m ≡ none
+module _ (n : List (List ℕ)) (m : List ℕ) (r : Result Contents Unread) (q : ReadAs m r) where
+  pub owner_unread : (u : Unread) → r ≡ Err u → octets_owner n m ≡ None
   unfolding octets_owner
-  owner_size e = rw (subst (ReadAs m) e q) refl
+  owner_unread Size e = rw (subst (ReadAs m) e q) refl
+  owner_unread (Broken place) e = let x : (size_ok m ≡ true) × (read_message m ≡ stops place) = subst (ReadAs m) e q in rw (x.0, x.1) refl
 
-  pub owner_broken : (place : ℕ) → r ≡ Broken place → octets_owner n m ≡ none
-  unfolding octets_owner
-  owner_broken place e = let x : (size_ok m ≡ true) × (read_message m ≡ stops place) = subst (ReadAs m) e q in rw (x.0, x.1) refl
-
-  module _ (c : Contents) (e : r ≡ Whole c) where
+  module _ (c : Contents) (e : r ≡ Ok c) where
     whole : ContentsRead m c
     whole = subst (ReadAs m) e q
 
@@ -46,30 +44,30 @@ module _ (n : List (List ℕ)) (m : List ℕ) (r : Read) (q : ReadAs m r) where
     pub owner_is : (s : Signer) → c.signer ≡ s → (o : Option ℕ) → signed_by n (signerShown m s) ≡ o → octets_owner n m ≡ o
     owner_is s i o w = owner_signer ∙ ap (λ (s : Signer). signed_by n (signerShown m s)) i ∙ w
 
-pub signer_fits : (m : List ℕ) {r : Read} {c : Contents} {s : Signer} → ReadAs m r → r ≡ Whole c → c.signer ≡ s → SignerFits m s
+pub signer_fits : (m : List ℕ) {r : Result Contents Unread} {c : Contents} {s : Signer} → ReadAs m r → r ≡ Ok c → c.signer ≡ s → SignerFits m s
 signer_fits m {c = c} q e i = let x : ContentsRead m c = subst (ReadAs m) e q in subst (SignerFits m) i x.signer_fits
 
 module _ (n : List (List ℕ)) (i : ℕ) where
-  below_signed : (s : Signature) → signed_by n s ≡ some i → i < length n
-  below_signed unsigned e = absurd (none-ne-some i e)
-  below_signed misplaced e = absurd (none-ne-some i e)
+  below_signed : (s : Signature) → signed_by n s ≡ Some i → i < length n
+  below_signed unsigned e = absurd (none-some i e)
+  below_signed misplaced e = absurd (none-some i e)
   below_signed (well_placed s) e = row_below n (after_label s.name) i e
 
-  below_read : (r : Reading Message) → read_by n r ≡ some i → i < length n
-  below_read (stops place) e = absurd (none-ne-some i e)
+  below_read : (r : Reading Message) → read_by n r ≡ Some i → i < length n
+  below_read (stops place) e = absurd (none-some i e)
   below_read (reads m next) e = below_signed (signature m.records) e
 
-  below : (m : List ℕ) (b : Bool) → cond b (read_by n (read_message m)) none ≡ some i → i < length n
+  below : (m : List ℕ) (b : Bool) → cond b (read_by n (read_message m)) None ≡ Some i → i < length n
   below m true e = below_read (read_message m) e
-  below m false e = absurd (none-ne-some i e)
+  below m false e = absurd (none-some i e)
 
-  owner_below : (m : List ℕ) → octets_owner n m ≡ some i → i < length n
+  owner_below : (m : List ℕ) → octets_owner n m ≡ Some i → i < length n
   unfolding octets_owner
   owner_below m e = below m (size_ok m) e
 
 -- ── A row that was found ────────────────────────────────────────────────────────────────────────────────────────────
 
-pub row_in : (w s m : List ℕ) (i : ℕ) → octets_owner (names_of (table_of w s)) m ≡ some i → i < length (table_of w s).rows
+pub row_in : (w s m : List ℕ) (i : ℕ) → octets_owner (names_of (table_of w s)) m ≡ Some i → i < length (table_of w s).rows
 unfolding names_of
 row_in w s m i owner =
     let h = owner_below (names_of (table_of w s)) i m owner in
@@ -77,6 +75,6 @@ row_in w s m i owner =
     omega arith
 
 -- its pair and its suffix, as a step is handed them
-pub row_held : (t : Table) (i : ℕ) {p : Pair} {y : List ℕ} → p ≡ pair_at t i → y ≡ suffix_at t i → holder (i + 1) y p ≡ holder_by t (some i)
+pub row_held : (t : Table) (i : ℕ) {p : Pair} {y : List ℕ} → p ≡ pair_at t i → y ≡ suffix_at t i → holder (i + 1) y p ≡ holder_by t (Some i)
 unfolding holder_at
 row_held t i is-p is_y = ap₂ (holder (i + 1)) is_y is-p

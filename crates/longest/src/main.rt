@@ -2,38 +2,35 @@
 // input that begins with 'c' asks for the chain alone, with 'd' for the deepest name alone, and with anything else for neither; empty, for both.
 #![tactic(auto)]
 
-use compression::Got;
+ghost use Rattle.std.specs.Prelude.{◌<◌};
+
+use compression::Name;
 use std::io::Read;
 
-// A line that cannot be written is left out.
-fn line(rt: &impl Print, what: &str, n: usize) {
-    let _ = println!(rt; "{what}{n}");
-}
-
-// The name at a place of a message.
+// Reads the name at a place of a message. What cannot be written is left out.
 fn read(rt: &impl Print, m: &[u8], at: usize) {
     let mut name = [0u8; 255];
-    match compression::read_name(m, &mut name, at) {
-        Got::Bad(place) => line(rt, "fails at ", place),
-        Got::Name { len, next } => {
-            line(rt, "octets ", len);
-            line(rt, "next place ", next);
-        }
-    }
+    let _ = match compression::read_name(m, &mut name, at) {
+        Ok(Name { len, next }) => println!(rt; "octets {len}\nnext place {next}"),
+        Err(place) => println!(rt; "fails at {place}"),
+    };
 }
 
-// A pointer's target has 14 bits, so a pointer can lead to place 16383 and no further. The final 0 stands at 12, a pointer at every second place from
-// 13 on, each to the one before it: 8187 pointers, the last of them at 16385.
+// A pointer to a place. It has 14 bits for it.
+fn pointer(to: usize) -> [u8; 2]
+    requires { to < 16384 }
+{
+    [(192 + to / 256) as u8, (to % 256) as u8]
+}
+
+// A pointer can lead to place 16383 and no further. The final 0 stands at 12, a pointer at every second place from 13 on, each to the one before it:
+// 8187 pointers, the last of them at 16385.
 fn chain(rt: &impl Print) {
     let mut m = [0u8; 16387];
-    m[13] = 192;
-    m[14] = 12;
-    let mut at = 15;
-    while at < 16386 {
-        let to = at - 2;
-        m[at] = (192 + to / 256) as u8;
-        m[at + 1] = (to % 256) as u8;
-        at += 2;
+    for i in 0..8187 {
+        let at = 13 + 2 * i;
+        let to = if i == 0 { 12 } else { at - 2 };
+        m[at..at + 2].copy_from_slice(&pointer(to));
     }
     read(rt, &m, 16385);
 }
@@ -42,33 +39,27 @@ fn chain(rt: &impl Print) {
 // it; a pointer to the last run stands at 521.
 fn deepest(rt: &impl Print) {
     let mut m = [0u8; 523];
-    m[13] = 1;
-    m[14] = 97;
-    m[15] = 192;
-    m[16] = 12;
-    let mut at = 17;
-    while at < 518 {
-        let to = at - 4;
+    for i in 0..127 {
+        let at = 13 + 4 * i;
+        let to = if i == 0 { 12 } else { at - 4 };
         m[at] = 1;
-        m[at + 1] = 97;
-        m[at + 2] = (192 + to / 256) as u8;
-        m[at + 3] = (to % 256) as u8;
-        at += 4;
+        m[at + 1] = b'a';
+        m[at + 2..at + 4].copy_from_slice(&pointer(to));
     }
-    m[521] = 194;
-    m[522] = 5;
+    m[521..].copy_from_slice(&pointer(517));
     read(rt, &m, 521);
 }
 
 fn main(rt: HostRuntime) {
     let mut input = [0u8; 1];
-    let n = rt.stdin().read(&mut input).unwrap_or(0);
-    let all = n == 0;
-    let first = input[0];
-    if all | (first == b'c') {
+    let asked = match rt.stdin().read(&mut input) {
+        Ok(1) => Some(input[0]),
+        _ => None,
+    };
+    if matches!(asked, None | Some(b'c')) {
         chain(&rt);
     }
-    if all | (first == b'd') {
+    if matches!(asked, None | Some(b'd')) {
         deepest(&rt);
     }
 }

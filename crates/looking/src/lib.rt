@@ -9,9 +9,9 @@ ghost use Rattle.store.specs.Layout.{table_of};
 ghost use Rattle.outcomes.specs.Ends.{shown};
 ghost use Rattle.looking.specs.Look.{Sound};
 
-use judging::Who;
+use judging::Owner;
 use model::Answer;
-use searching::Found;
+use outcomes::Refusal;
 
 // A look that passed TABLE.
 fn look_passed(words: &[u64], suffixes: &[u8], message: &[u8]) -> Answer
@@ -20,19 +20,16 @@ fn look_passed(words: &[u64], suffixes: &[u8], message: &[u8]) -> Answer
 {
     let reading = contents::read(message);
     match locating::row_read(words, suffixes, message, reading) {
-        Found::Row(row) => {
+        Some(row) => {
             let pair = outcomes::pair_of(words, suffixes, row);
             let suffix = outcomes::suffix_of(words, suffixes, row);
-            let who = Who::Pair {
+            let who = Some(Owner {
                 number: row as u64 + 1,
                 pair,
-            };
+            });
             step::look_step(message, reading, who, suffix)
         }
-        Found::Missing(_) => {
-            let none = &message[..0];
-            step::look_step(message, reading, Who::Nobody, none)
-        }
+        None => { step::look_step(message, reading, None, &message[..0]) }
     }
 }
 
@@ -42,7 +39,7 @@ pub fn look(words: &[u64], suffixes: &[u8], message: &[u8]) -> Answer
     ensures { shown words.now suffixes.now result ≡ look_on (table_of words.now suffixes.now) message.now }
 {
     if !ruling::rules_ok(words, suffixes) {
-        return outcomes::refused(1);
+        return outcomes::answered(Err(Refusal::Table));
     }
     look_passed(words, suffixes, message)
 }

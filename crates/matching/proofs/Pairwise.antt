@@ -13,7 +13,7 @@ use Rattle.model.proofs.NameLaws.{same_length, same_sym}
 use Rattle.model.proofs.Items.{item_ends}
 use Rattle.model.proofs.Reader.{lt_or_le, Keeps, read_keeps, unfolds}
 use Rattle.matching.specs.Compare.{part_is, same_read, Alike, Headed, Labelled, Passing, PassedBy}
-use Rattle.matching.specs.declared.Passed.TheVariants.{No, On}
+use Rattle.std.specs.Prelude.{None, Some}
 use Rattle.compression.proofs.Laws.{item_fine}
 use Rattle.names.proofs.Same.{apart, in_parts}
 use Rattle.matching.proofs.Comparing.{ends_alike, behind, further, head, other}
@@ -70,10 +70,10 @@ module _ (m : List ℕ) (first at used start place : ℕ) (few : used < 255)
   pass_points t e before l f b = one e before l f b ∙ ends_alike (place + 2) (read_on m t t before) f b
 
   module _ (l : List ℕ) (before : List ℕ) (size : length before ≡ used) where
-    pub pass_fails : (p : ℕ) → item_at m start place used ≡ fails p → PassedBy m before (read_on m first at before) used l No
+    pub pass_fails : (p : ℕ) → item_at m start place used ≡ fails p → PassedBy m before (read_on m first at before) used l None
     pass_fails p e rest = one e before size (drop used) (l ++ rest)
 
-    pub pass_ends : item_at m start place used ≡ ends → Labelled l → PassedBy m before (read_on m first at before) used l No
+    pub pass_ends : item_at m start place used ≡ ends → Labelled l → PassedBy m before (read_on m first at before) used l None
     pass_ends e h rest =
         one e before size (drop used) (l ++ rest)
         ∙ rw (drop_at before (0 ∷ []) used size) (apart (0 ∷ []) (l ++ rest) (λ q. omega (arith, length-append l rest, h.some, q)))
@@ -82,7 +82,7 @@ module _ (m : List ℕ) (first at used start place : ℕ) (few : used < 255)
       abbrev own : List ℕ
       own = take (n + 1) (drop place m)
 
-      pub pass_on : same_name (take (place + (n + 1) - place) (drop place m)) l ≡ true → PassedBy m before (read_on m first at before) used l (On start (place + (n + 1)))
+      pub pass_on : same_name (take (place + (n + 1) - place) (drop place m)) l ≡ true → PassedBy m before (read_on m first at before) used l (Some (record { start = start; place = (place + (n + 1)) }))
       pass_on t = record { own = own; same = rw (exact m start place used n e) at t; says = one e before size }
 
       never : (r : Reading (List ℕ)) → Keeps (before ++ own) r → Labelled l → same_name own l ≡ false → (rest : List ℕ) → part_is (drop used) r (l ++ rest) ≡ false
@@ -91,7 +91,7 @@ module _ (m : List ℕ) (first at used start place : ℕ) (few : used < 255)
           ap (λ (x : List ℕ). same_name x (l ++ rest)) (ap (drop used) k.is ∙ behind before own used (n + 1) size (seg_length m start place used n e) k.rest)
           ∙ other own l k.rest rest (seg_headed m start place used n e) h.headed f
 
-      pub pass_other : same_name (take (place + (n + 1) - place) (drop place m)) l ≡ false → Labelled l → PassedBy m before (read_on m first at before) used l No
+      pub pass_other : same_name (take (place + (n + 1) - place) (drop place m)) l ≡ false → Labelled l → PassedBy m before (read_on m first at before) used l None
       pass_other f h rest =
           one e before size (drop used) (l ++ rest)
           ∙ never (read_on m start (place + (n + 1)) (before ++ own)) (read_keeps m start (place + (n + 1)) (before ++ own)) h (rw (exact m start place used n e) at f) rest
@@ -160,7 +160,7 @@ module _ (a b : List ℕ) (i j start place len first there : ℕ) (g : Both a b 
     in_front : {octets : List ℕ} (k : Keeps (g.before ++ mine) (reads octets 0)) → drop len octets ≡ mine ++ k.rest
     in_front k = ap (drop len) k.is ∙ behind g.before mine len (n + 1) g.counted (seg_length a start place len n e) k.rest
 
-    pub both_other : PassedBy b g.others left_over len (take (place + (n + 1) - place) (drop place a)) No → false ≡ same_read (read_name a i) (read_name b j)
+    pub both_other : PassedBy b g.others left_over len (take (place + (n + 1) - place) (drop place a)) None → false ≡ same_read (read_name a i) (read_name b j)
     both_other p = sym (here e ∙ go rest (read_keeps a start (place + (n + 1)) (g.before ++ mine)))
       where
         p₁ : (more : List ℕ) → part_is (drop len) left_over (mine ++ more) ≡ false

@@ -4,17 +4,17 @@ use mathlib.Core.Path.{◌≡◌, sym, ap, subst}
 use mathlib.Core.Bool.{Bool, true, false}
 use mathlib.Core.List.{List}
 use lib.Dec.{eqb}
-use Rattle.records.specs.declared.Found.{Found}
+use Rattle.std.specs.Prelude.{Ok, Result}
 use Rattle.records.specs.Record.{RecordSkipped}
 use Rattle.messages.specs.declared.Kept.{Kept}
 use Rattle.messages.specs.declared.Kept.TheVariants.{Never, Once, More}
 use Rattle.messages.specs.declared.Seen.{Seen}
 use Rattle.messages.specs.declared.Notes.{Notes}
-use Rattle.messages.specs.declared.Last.{Last}
-use Rattle.messages.specs.Scan.{kept_of, seen_of, unseen, signed_on, noted, last_found, LastRead}
+use Rattle.messages.specs.Scan.{kept_of, seen_of, unseen, signed_on, noted, LastRead}
+use Rattle.records.specs.declared.Found.{Found}
 
-module _ (m : List ℕ) (l : Last) where
-  last_on : (k : Kept) (hit : Bool) (section place : ℕ) → RecordSkipped m place (last_found l) → LastRead m (signed_on k hit section place) l
+module _ (m : List ℕ) (l : Found) where
+  last_on : (k : Kept) (hit : Bool) (section place : ℕ) → RecordSkipped m place (Ok l) → LastRead m (signed_on k hit section place) l
   last_on Never true section place q = q
   last_on Never false section place q = tt
   last_on (Once s p) hit section place q = tt
@@ -23,9 +23,9 @@ module _ (m : List ℕ) (l : Last) where
   pub last_noted :
       (n n' : Notes) (section place kind : ℕ)
       → seen_of n' ≡ noted (seen_of n) section place kind
-      → {f : Found}
+      → {f : Result Found ℕ}
       → RecordSkipped m place f
-      → f ≡ last_found l
+      → f ≡ Ok l
       → LastRead m (kept_of n'.sign) l
   unfolding noted
   last_noted n n' section place kind e q is =

@@ -3,7 +3,7 @@
 use Prim.Native.Nat.{ℕ, ◌+◌, ◌-◌, ◌<◌}
 use mathlib.Core.Path.{◌≡◌, refl, sym, ap, ◌∙◌}
 use mathlib.Core.Bool.{Bool, true, false, cond, false≢true}
-use mathlib.Core.Option.{some}
+use Rattle.std.specs.Prelude.{Some}
 use mathlib.Core.List.{List, [], ◌∷◌, ◌++◌}
 use native.Mathlib.Nat.{add-zero}
 use native.Mathlib.Omega.{arith}
@@ -81,15 +81,15 @@ first_later place x y xs ys e f =
     }
 
 -- Of lists that are level, the place found is that of the first field that differs, and not the end.
-pub differs_at : (end : ℕ) (xs ys : List Placed) (place : ℕ) → Level xs ys → first_in end xs ys ≡ some place → FirstAt place xs ys
+pub differs_at : (end : ℕ) (xs ys : List Placed) (place : ℕ) → Level xs ys → first_in end xs ys ≡ Some place → FirstAt place xs ys
 unfolding first_in same_fields
 differs_at end [] [] place l e = let z : ◌≡◌ {A = ℕ} 0 1 = cc in absurd (omega arith)
 differs_at end [] (y ∷ ys) place l e = absurd l
 differs_at end (x ∷ xs) [] place l e = absurd l
 differs_at end (x ∷ xs) (y ∷ ys) place l e = go (same_field x.field y.field) refl (λ s. differs_at end xs ys place (l s)) e
   where
-    go : (t : Bool) → same_field x.field y.field ≡ t → (same_field x.field y.field ≡ true → first_in end xs ys ≡ some place → FirstAt place xs ys)
-        → cond t (first_in end xs ys) (some y.place) ≡ some place → FirstAt place (x ∷ xs) (y ∷ ys)
+    go : (t : Bool) → same_field x.field y.field ≡ t → (same_field x.field y.field ≡ true → first_in end xs ys ≡ Some place → FirstAt place xs ys)
+        → cond t (first_in end xs ys) (Some y.place) ≡ Some place → FirstAt place (x ∷ xs) (y ∷ ys)
     go true s f e = first_later place x y xs ys s (f s e)
     go false s f e = record { before = []; before_theirs = []; x = x; y = y; behind = xs; behind_theirs = ys; ours = refl; theirs = refl; same = refl; other = s; is = cc }
 

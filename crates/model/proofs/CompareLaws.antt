@@ -3,7 +3,7 @@
 use Prim.Native.Nat.{ℕ}
 use mathlib.Core.Path.{◌≡◌, refl, sym, ap, ap₂, ◌∙◌}
 use mathlib.Core.Bool.{Bool, true, false, cond, ◌&&◌, false≢true}
-use mathlib.Core.Option.{Option, none, some}
+use Rattle.std.specs.Prelude.{Option, None, Some}
 use mathlib.Core.Logic.{inl, inr}
 use mathlib.Core.List.{List, [], ◌∷◌}
 use native.Mathlib.Omega.{arith}
@@ -116,10 +116,10 @@ meaning_trans a b c e d = fields_trans (fields_of a) (fields_of b) (fields_of c)
 -- ── No field differs exactly where all are the same ─────────────────────────────────────────────────────────────────
 
 abbrev is_none : {A : Type 0} → Option A → Bool
-is_none none = true
-is_none (some a) = false
+is_none None = true
+is_none (Some a) = false
 
-pub none_differs : (end : ℕ) (x y : List Placed) → same_fields x y ≡ true → first_in end x y ≡ none
+pub none_differs : (end : ℕ) (x y : List Placed) → same_fields x y ≡ true → first_in end x y ≡ None
 unfolding same_fields first_in
 none_differs end [] [] e = refl
 none_differs end [] (b ∷ y) e = absurd (false≢true e)
@@ -128,14 +128,14 @@ none_differs end (a ∷ x) (b ∷ y) e =
     let t = same_field a.field b.field in
     rw (left t (same_fields x y) e) (none_differs end x y (right t (same_fields x y) e))
 
-pub all_same : (end : ℕ) (x y : List Placed) → first_in end x y ≡ none → same_fields x y ≡ true
+pub all_same : (end : ℕ) (x y : List Placed) → first_in end x y ≡ None → same_fields x y ≡ true
 unfolding same_fields first_in
 all_same end [] [] e = refl
 all_same end [] (b ∷ y) e = absurd (false≢true (ap is_none e))
 all_same end (a ∷ x) [] e = absurd (false≢true (ap is_none e))
 all_same end (a ∷ x) (b ∷ y) e = go (same_field a.field b.field) (all_same end x y) e
   where
-    go : (t : Bool) → (first_in end x y ≡ none → same_fields x y ≡ true) → cond t (first_in end x y) (some b.place) ≡ none → (t && same_fields x y) ≡ true
+    go : (t : Bool) → (first_in end x y ≡ None → same_fields x y ≡ true) → cond t (first_in end x y) (Some b.place) ≡ None → (t && same_fields x y) ≡ true
     go true f e = f e
     go false f e = absurd (false≢true (ap is_none e))
 
@@ -147,10 +147,10 @@ unfolding size_ok
 proper_some [] p e = false≢true p.size
 proper_some (x ∷ r) p e = let z : ◌≡◌ {A = ℕ} 0 1 = cc in omega arith
 
-differs_not : (o : Option ℕ) → (by_difference o).number ≡ DONE → o ≡ none
+differs_not : (o : Option ℕ) → (by_difference o).number ≡ DONE → o ≡ None
 unfolding DIFFERS DONE
-differs_not none e = refl
-differs_not (some place) e = absurd (omega arith)
+differs_not None e = refl
+differs_not (Some place) e = absurd (omega arith)
 
 proper_accepted : (ours theirs : List ℕ) → Proper theirs → SameMeaning ours theirs → by_size ours theirs ≡ verdict DONE 0
 unfolding by_size first_difference
@@ -202,9 +202,9 @@ decided [] theirs p q = absurd (proper_some [] p refl)
 decided (x ∷ ours) [] p q = absurd (proper_some [] q refl)
 decided (x ∷ ours) (y ∷ theirs) p q = rw (q.size, q.says) refl
 
-pub by_fields : (ours theirs : List ℕ) → Proper ours → Proper theirs → (place : ℕ) → compared ours theirs ≡ verdict DIFFERS place → first_difference ours theirs ≡ some place
+pub by_fields : (ours theirs : List ℕ) → Proper ours → Proper theirs → (place : ℕ) → compared ours theirs ≡ verdict DIFFERS place → first_difference ours theirs ≡ Some place
 by_fields ours theirs p q place e = go (first_difference ours theirs) (sym (decided ours theirs p q) ∙ e)
   where
-    go : (o : Option ℕ) → by_difference o ≡ verdict DIFFERS place → o ≡ some place
-    go none e = absurd (done_not (ap (λ (v : Verdict). v.number) e))
-    go (some at) e = ap some (ap (λ (v : Verdict). v.place) e)
+    go : (o : Option ℕ) → by_difference o ≡ verdict DIFFERS place → o ≡ Some place
+    go None e = absurd (done_not (ap (λ (v : Verdict). v.number) e))
+    go (Some at) e = ap Some (ap (λ (v : Verdict). v.place) e)

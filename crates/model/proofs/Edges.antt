@@ -3,7 +3,7 @@
 use Prim.Native.Nat.{ℕ, zero, suc}
 use mathlib.Core.Path.{◌≡◌, refl}
 use mathlib.Core.Bool.{Bool, true, false}
-use mathlib.Core.Option.{Option, none, some}
+use Rattle.std.specs.Prelude.{Option, None, Some}
 use mathlib.Core.List.{List, [], ◌∷◌, ◌++◌}
 use lib.ListN.{replicate}
 use lib.IntN.{pos}
@@ -287,11 +287,11 @@ abbrev huge : List ℕ
 huge = header_of 4660 0 0 0 0 2 ++ ((0 ∷ 0 ∷ 1 ∷ 0 ∷ 1 ∷ 0 ∷ 0 ∷ 0 ∷ 0 ∷ 255 ∷ 255 ∷ []) ++ (replicate 65535 0 ++ tsig 1 1000))
 
 pub owners :
-    (owner_in (signed_by (0 ∷ []) Sha256) ≡ none)
-    × (owner_in (signed_by suffix Sha256) ≡ none)
-    × (owner_in (signed_by (2 ∷ 48 ∷ 49 ∷ suffix) Sha256) ≡ some 0)
-    × (owner_in (signed_by (key_name 7 other_suffix) Sha512) ≡ some 1)
-    × (owner_in huge ≡ none)
+    (owner_in (signed_by (0 ∷ []) Sha256) ≡ None)
+    × (owner_in (signed_by suffix Sha256) ≡ None)
+    × (owner_in (signed_by (2 ∷ 48 ∷ 49 ∷ suffix) Sha256) ≡ Some 0)
+    × (owner_in (signed_by (key_name 7 other_suffix) Sha512) ≡ Some 1)
+    × (owner_in huge ≡ None)
 unfolding after
 owners = (refl, refl, refl, refl, refl)
 
@@ -300,7 +300,7 @@ abbrev owned : Call → Option ℕ
 owned c = owner_of (suffix ∷ other_suffix ∷ []) c
 
 pub numbered :
-    (owned (issue 1000 0 256) ≡ none) × (owned (issue 1000 1 256) ≡ some 0) × (owned (revoke 1000 2) ≡ some 1) × (owned (revoke 1000 3) ≡ none)
+    (owned (issue 1000 0 256) ≡ None) × (owned (issue 1000 1 256) ≡ Some 0) × (owned (revoke 1000 2) ≡ Some 1) × (owned (revoke 1000 3) ≡ None)
 unfolding after
 numbered = (refl, refl, refl, refl)
 

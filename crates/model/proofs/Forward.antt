@@ -1,7 +1,8 @@
 -- For those who write the code: a listing read line by line, from the first octet on, and loading by the walk that mends. Assumes nothing.
 use mathlib.Core.Path.{◌≡◌, refl, sym, ap, ap₂, ◌∙◌, subst}
 use mathlib.Core.Bool.{Bool, true, false, cond, not, ◌&&◌, false≢true}
-use mathlib.Core.Option.{Option, none, some, none-ne-some}
+use Rattle.std.specs.Prelude.{Option, None, Some}
+use Rattle.std.proofs.lemmas.Option.{none-some}
 use mathlib.Core.List.{List, [], ◌∷◌, ◌++◌, append_assoc, append-nil, map}
 use Prim.Native.Nat.{ℕ, zero, suc, ◌+◌, ◌<◌}
 use native.Mathlib.Omega.{arith}
@@ -68,118 +69,118 @@ opened_other b l ls e = rw (e, append-nil b.below) refl
 
 -- One key more.
 unfoldable pub key_added : Keys → Stated → Option Keys
-key_added Empty k = only_if k.adopted (some (Adopted k.key))
-key_added (Adopted a) k = only_if (not k.adopted) (some (Renewing a k.key))
-key_added (Renewing a w) k = none
+key_added Empty k = only_if k.adopted (Some (Adopted k.key))
+key_added (Adopted a) k = only_if (not k.adopted) (Some (Renewing a k.key))
+key_added (Renewing a w) k = None
 
 pub keys_added : (ss : List Stated) (k : Stated) → keys_of (ss ++ (k ∷ [])) ≡ given (keys_of ss) λ ks. key_added ks k
 unfolding keys_of key_added
 keys_added [] k = refl
 keys_added (a ∷ []) k = go a.adopted
   where
-    go : (b : Bool) → only_if (b && not k.adopted) (some (Renewing a.key k.key)) ≡ given (only_if b (some (Adopted a.key))) (λ ks. key_added ks k)
+    go : (b : Bool) → only_if (b && not k.adopted) (Some (Renewing a.key k.key)) ≡ given (only_if b (Some (Adopted a.key))) (λ ks. key_added ks k)
     go true = refl
     go false = refl
 keys_added (a ∷ w ∷ []) k = go (a.adopted && not w.adopted)
   where
-    go : (b : Bool) → ◌≡◌ {A = Option Keys} none (given (only_if b (some (Renewing a.key w.key))) (λ ks. key_added ks k))
+    go : (b : Bool) → ◌≡◌ {A = Option Keys} None (given (only_if b (Some (Renewing a.key w.key))) (λ ks. key_added ks k))
     go true = refl
     go false = refl
 keys_added (a ∷ w ∷ x ∷ ss) k = refl
 
-keys_read_more : (ls : List (List ℕ)) (l : List ℕ) → read_keys (ls ++ (l ∷ [])) ≡ given (read_keys ls) λ ss. given (read_key l) λ k. some (ss ++ (k ∷ []))
+keys_read_more : (ls : List (List ℕ)) (l : List ℕ) → read_keys (ls ++ (l ∷ [])) ≡ given (read_keys ls) λ ss. given (read_key l) λ k. Some (ss ++ (k ∷ []))
 unfolding read_keys
 keys_read_more [] l = refl
 keys_read_more (x ∷ ls) l = go (read_key x) (read_keys ls) (keys_read_more ls l)
   where
-    last : (o : Option Stated) (k : Stated) (ss : List Stated) → given (given o (λ a. some (ss ++ (a ∷ [])))) (λ ks. some (k ∷ ks)) ≡ given o (λ a. some ((k ∷ ss) ++ (a ∷ [])))
-    last none k ss = refl
-    last (some a) k ss = refl
+    last : (o : Option Stated) (k : Stated) (ss : List Stated) → given (given o (λ a. Some (ss ++ (a ∷ [])))) (λ ks. Some (k ∷ ks)) ≡ given o (λ a. Some ((k ∷ ss) ++ (a ∷ [])))
+    last None k ss = refl
+    last (Some a) k ss = refl
 
     go :
         (o : Option Stated) (p : Option (List Stated))
-        → read_keys (ls ++ (l ∷ [])) ≡ given p (λ ss. given (read_key l) λ k. some (ss ++ (k ∷ [])))
-        → given o (λ k. given (read_keys (ls ++ (l ∷ []))) λ ks. some (k ∷ ks)) ≡ given (given o (λ k. given p λ ks. some (k ∷ ks))) (λ ss. given (read_key l) λ k. some (ss ++ (k ∷ [])))
-    go none p e = refl
-    go (some k) none e = rw e refl
-    go (some k) (some ss) e = rw e (last (read_key l) k ss)
+        → read_keys (ls ++ (l ∷ [])) ≡ given p (λ ss. given (read_key l) λ k. Some (ss ++ (k ∷ [])))
+        → given o (λ k. given (read_keys (ls ++ (l ∷ []))) λ ks. Some (k ∷ ks)) ≡ given (given o (λ k. given p λ ks. Some (k ∷ ks))) (λ ss. given (read_key l) λ k. Some (ss ++ (k ∷ [])))
+    go None p e = refl
+    go (Some k) None e = rw e refl
+    go (Some k) (Some ss) e = rw e (last (read_key l) k ss)
 
 -- A line that opens a pair, and a `key` line of the pair that is open.
 abbrev pub entry_begun : Option Row → Entry
-entry_begun none = unread
-entry_begun (some r) = says r.suffix (some (with_keys r.pair r.pair.next_serial Empty))
+entry_begun None = unread
+entry_begun (Some r) = says r.suffix (Some (with_keys r.pair r.pair.next_serial Empty))
 
 pub entry_begun_lem : (l : List ℕ) → entry_of (record { starts = l; below = [] }) ≡ entry_begun (read_pair l)
 unfolding entry_of read_keys keys_of
 entry_begun_lem l = go (read_pair l)
   where
-    go : (o : Option Row) → entry_from o (some []) ≡ entry_begun o
-    go none = refl
-    go (some r) = refl
+    go : (o : Option Row) → entry_from o (Some []) ≡ entry_begun o
+    go None = refl
+    go (Some r) = refl
 
 abbrev pub entry_added : Entry → Option Stated → Entry
 entry_added unread k = unread
-entry_added (says s p) none = unread
-entry_added (says s p) (some k) = says s (given p λ p. given (key_added p.keys k) λ ks. some (with_keys p p.next_serial ks))
+entry_added (says s p) None = unread
+entry_added (says s p) (Some k) = says s (given p λ p. given (key_added p.keys k) λ ks. Some (with_keys p p.next_serial ks))
 
 pub entry_added_lem : (b : Block) (l : List ℕ) → entry_of (record { starts = b.starts; below = b.below ++ (l ∷ []) }) ≡ entry_added (entry_of b) (read_key l)
 unfolding entry_of with_keys
 entry_added_lem b l = ap (entry_from (read_pair b.starts)) (keys_read_more b.below l) ∙ go (read_pair b.starts) (read_keys b.below) (read_key l)
   where
-    keys : (r : Row) (o : Option Keys) (k : Stated) → given (given o (λ ks. key_added ks k)) (λ keys. some (with_keys r.pair r.pair.next_serial keys)) ≡ given (given o (λ keys. some (with_keys r.pair r.pair.next_serial keys))) (λ p. given (key_added p.keys k) λ ks. some (with_keys p p.next_serial ks))
-    keys r none k = refl
-    keys r (some ks) k = refl
+    keys : (r : Row) (o : Option Keys) (k : Stated) → given (given o (λ ks. key_added ks k)) (λ keys. Some (with_keys r.pair r.pair.next_serial keys)) ≡ given (given o (λ keys. Some (with_keys r.pair r.pair.next_serial keys))) (λ p. given (key_added p.keys k) λ ks. Some (with_keys p p.next_serial ks))
+    keys r None k = refl
+    keys r (Some ks) k = refl
 
-    go : (o : Option Row) (p : Option (List Stated)) (k : Option Stated) → entry_from o (given p λ ss. given k λ k. some (ss ++ (k ∷ []))) ≡ entry_added (entry_from o p) k
-    go none p k = refl
-    go (some r) none k = refl
-    go (some r) (some ss) none = refl
-    go (some r) (some ss) (some k) = ap (says r.suffix) (ap (λ (o : Option Keys). given o λ keys. some (with_keys r.pair r.pair.next_serial keys)) (keys_added ss k) ∙ keys r (keys_of ss) k)
+    go : (o : Option Row) (p : Option (List Stated)) (k : Option Stated) → entry_from o (given p λ ss. given k λ k. Some (ss ++ (k ∷ []))) ≡ entry_added (entry_from o p) k
+    go None p k = refl
+    go (Some r) None k = refl
+    go (Some r) (Some ss) None = refl
+    go (Some r) (Some ss) (Some k) = ap (says r.suffix) (ap (λ (o : Option Keys). given o λ keys. Some (with_keys r.pair r.pair.next_serial keys)) (keys_added ss k) ∙ keys r (keys_of ss) k)
 
 -- ── Loading by mending ──────────────────────────────────────────────────────────────────────────────────────────────
 
 -- Where every line reads, loading is mending that drops nothing.
 abbrev pub loaded_from : Option ℕ → Mended → Loaded
-loaded_from (some n) m = no_line n
-loaded_from none no_clock = no_table
-loaded_from none no_rule = no_table
-loaded_from none no_room = no_table
-loaded_from none (mended t []) = loaded t
-loaded_from none (mended t (d ∷ ds)) = no_table
+loaded_from (Some n) m = no_line n
+loaded_from None no_clock = no_table
+loaded_from None no_rule = no_table
+loaded_from None no_room = no_table
+loaded_from None (mended t []) = loaded t
+loaded_from None (mended t (d ∷ ds)) = no_table
 
 pub load_by_mend : (s : List ℕ) → load s ≡ loaded_from (first_unread (lines_of s)) (mend s)
 unfolding load
 load_by_mend s = go (first_unread (lines_of s)) (table_said (lines_of s)) refl refl
   where
-    other : (m : Mended) → mend s ≡ m → load s ≡ no_table → loaded_from none m ≡ no_table
+    other : (m : Mended) → mend s ≡ m → load s ≡ no_table → loaded_from None m ≡ no_table
     other no_clock e f = refl
     other no_rule e f = refl
     other no_room e f = refl
     other (mended t []) e f = sym (whole_loads s t e) ∙ f
     other (mended t (d ∷ ds)) e f = refl
 
-    rule : (t : Table) (b : Bool) → load s ≡ cond b (loaded t) no_table → cond b (loaded t) no_table ≡ loaded_from none (mend s)
-    rule t true e = sym (ap (loaded_from none) (mend_whole s t e))
+    rule : (t : Table) (b : Bool) → load s ≡ cond b (loaded t) no_table → cond b (loaded t) no_table ≡ loaded_from None (mend s)
+    rule t true e = sym (ap (loaded_from None) (mend_whole s t e))
     rule t false e = sym (other (mend s) refl e)
 
     go : (n : Option ℕ) (o : Option Table) → first_unread (lines_of s) ≡ n → table_said (lines_of s) ≡ o → loaded_by n o ≡ loaded_from n (mend s)
-    go (some n) o e f = refl
-    go none none e f = sym (other (mend s) refl (ap₂ loaded_by e f))
-    go none (some t) e f = rule t (table_rules t) (ap₂ loaded_by e f)
+    go (Some n) o e f = refl
+    go None None e f = sym (other (mend s) refl (ap₂ loaded_by e f))
+    go None (Some t) e f = rule t (table_rules t) (ap₂ loaded_by e f)
 
 -- ── 18, in loading and in mending ───────────────────────────────────────────────────────────────────────────────────
 
-there : {A : Type 0} (o : Option A) → is_some o ≡ true → (a : A) × (o ≡ some a)
-there none e = absurd (false≢true e)
-there (some a) e = (a, refl)
+there : {A : Type 0} (o : Option A) → is_some o ≡ true → (a : A) × (o ≡ Some a)
+there None e = absurd (false≢true e)
+there (Some a) e = (a, refl)
 
-read_or : (b : Bool) (n : ℕ) (o : Option ℕ) → unread_or b n o ≡ none → (b ≡ true) × (o ≡ none)
+read_or : (b : Bool) (n : ℕ) (o : Option ℕ) → unread_or b n o ≡ None → (b ≡ true) × (o ≡ None)
 read_or true n o e = (refl, e)
-read_or false n o e = absurd (none-ne-some n (sym e))
+read_or false n o e = absurd (none-some n (sym e))
 
 record Reading (g : Blocks) : Type 0 where
   keys : List Stated
-  loose_read : read_keys g.loose ≡ some keys
+  loose_read : read_keys g.loose ≡ Some keys
   blocks_read : AllRead g.blocks
 
 -- A `key` line, and a line that starts a pair.
@@ -187,7 +188,7 @@ key_reading : (l : List ℕ) (g : Blocks) → is_some (read_key l) ≡ true → 
 unfolding read_keys
 key_reading l g e r =
     let k = there (read_key l) e in
-    record { keys = k.0 ∷ r.keys; loose_read = ap₂ (λ (o : Option Stated) (p : Option (List Stated)). given o λ k. given p λ ks. some (k ∷ ks)) k.1 r.loose_read; blocks_read = r.blocks_read }
+    record { keys = k.0 ∷ r.keys; loose_read = ap₂ (λ (o : Option Stated) (p : Option (List Stated)). given o λ k. given p λ ks. Some (k ∷ ks)) k.1 r.loose_read; blocks_read = r.blocks_read }
 
 pair_reading : (l : List ℕ) (g : Blocks) → is_some (read_pair l) ≡ true → Reading g → Reading (blocks_from false l g)
 unfolding entry_of read_keys
@@ -195,22 +196,22 @@ pair_reading l g e r =
     let p = there (read_pair l) e in
     record { keys = []; loose_read = refl; blocks_read = ((p.0.suffix, _, ap₂ entry_from p.1 r.loose_read), r.blocks_read) }
 
-reading : (n : ℕ) (ls : List (List ℕ)) → unread_from false n ls ≡ none → Reading (blocks_of ls)
+reading : (n : ℕ) (ls : List (List ℕ)) → unread_from false n ls ≡ None → Reading (blocks_of ls)
 unfolding unread_from blocks_of read_keys
 reading n [] e = record { keys = []; loose_read = refl; blocks_read = tt }
 reading n (l ∷ ls) e = go (is_key_line l) e (reading (suc n) ls)
   where
-    go : (b : Bool) → unread_or (reads_as b false l) n (unread_from (false && b) (suc n) ls) ≡ none → (unread_from false (suc n) ls ≡ none → Reading (blocks_of ls)) → Reading (blocks_from b l (blocks_of ls))
+    go : (b : Bool) → unread_or (reads_as b false l) n (unread_from (false && b) (suc n) ls) ≡ None → (unread_from false (suc n) ls ≡ None → Reading (blocks_of ls)) → Reading (blocks_from b l (blocks_of ls))
     go true e rec = let x = read_or (is_some (read_key l)) n (unread_from false (suc n) ls) e in key_reading l (blocks_of ls) x.0 (rec x.1)
     go false e rec = let x = read_or (is_some (read_pair l)) n (unread_from false (suc n) ls) e in pair_reading l (blocks_of ls) x.0 (rec x.1)
 
-below_reading : (n : ℕ) (ls : List (List ℕ)) → unread_from true n ls ≡ none → ((blocks_of ls).loose ≡ []) × AllRead (blocks_of ls).blocks
+below_reading : (n : ℕ) (ls : List (List ℕ)) → unread_from true n ls ≡ None → ((blocks_of ls).loose ≡ []) × AllRead (blocks_of ls).blocks
 unfolding unread_from blocks_of
 below_reading n [] e = (refl, tt)
 below_reading n (l ∷ ls) e = go (is_key_line l) e
   where
-    go : (b : Bool) → unread_or (reads_as b true l) n (unread_from (true && b) (suc n) ls) ≡ none → ((blocks_from b l (blocks_of ls)).loose ≡ []) × AllRead (blocks_from b l (blocks_of ls)).blocks
-    go true e = absurd (none-ne-some n (sym e))
+    go : (b : Bool) → unread_or (reads_as b true l) n (unread_from (true && b) (suc n) ls) ≡ None → ((blocks_from b l (blocks_of ls)).loose ≡ []) × AllRead (blocks_from b l (blocks_of ls)).blocks
+    go true e = absurd (none-some n (sym e))
     go false e =
         let x = read_or (is_some (read_pair l)) n (unread_from false (suc n) ls) e in
         (refl, (pair_reading l (blocks_of ls) x.0 (reading (suc n) ls x.1)).blocks_read)
@@ -235,8 +236,8 @@ judged_other clock kept s p =
     last p
   where
     last : (p : Option Pair) → Other (sound_row clock s p)
-    last none = others.2
-    last (some p) = either Other (suffix_ok s && pair_rule clock p) (λ e. tt) (λ e. others.2)
+    last None = others.2
+    last (Some p) = either Other (suffix_ok s && pair_rule clock p) (λ e. tt) (λ e. others.2)
 
 dropped_other : (reason n k : ℕ) → not (eqb reason LINE) ≡ true → every other_reason (dropped_from reason n k) ≡ true
 unfolding dropped_from
@@ -269,20 +270,20 @@ NoLine no_rule = Unit {0}
 NoLine no_room = Unit {0}
 NoLine (mended t ds) = every other_reason ds ≡ true
 
-clocked_no_line : (ls : List (List ℕ)) (o : Option Clocked) → is_some o ≡ true → unread_from true 2 ls ≡ none → NoLine (mended_by o (blocks_of ls))
+clocked_no_line : (ls : List (List ℕ)) (o : Option Clocked) → is_some o ≡ true → unread_from true 2 ls ≡ None → NoLine (mended_by o (blocks_of ls))
 unfolding dropped_from
-clocked_no_line ls none c e = absurd (false≢true c)
-clocked_no_line ls (some c) f e =
+clocked_no_line ls None c e = absurd (false≢true c)
+clocked_no_line ls (Some c) f e =
     let b = below_reading 2 ls e in
     either NoLine (clocked_rule c) (λ r. rw b.0 (kept_other c.clock [] 2 (blocks_of ls).blocks b.1)) (λ r. tt)
 
-lines_no_line : (ls : List (List ℕ)) → first_unread ls ≡ none → NoLine (mend_lines ls)
+lines_no_line : (ls : List (List ℕ)) → first_unread ls ≡ None → NoLine (mend_lines ls)
 unfolding mend_lines first_unread
-lines_no_line [] e = absurd (none-ne-some 1 (sym e))
+lines_no_line [] e = absurd (none-some 1 (sym e))
 lines_no_line (l ∷ ls) e = let x = read_or (is_some (read_clock l)) 1 (unread_from true 2 ls) e in clocked_no_line ls (read_clock l) x.0 x.1
 
 -- Where every line reads, mending is not refused with 18 and drops nothing with 18.
-pub reads_no_line : (s : List ℕ) → first_unread (lines_of s) ≡ none → NoLine (mend s)
+pub reads_no_line : (s : List ℕ) → first_unread (lines_of s) ≡ None → NoLine (mend s)
 unfolding mend
 reads_no_line s e = lines_no_line (lines_of s) e
 
@@ -338,11 +339,11 @@ abbrev ReadBy : List (List ℕ) → Mended → Type 0
 ReadBy ls no_clock = Unit {0}
 ReadBy ls no_rule = Unit {0}
 ReadBy ls no_room = Unit {0}
-ReadBy ls (mended t ds) = every other_reason ds ≡ true → unread_from true 2 ls ≡ none
+ReadBy ls (mended t ds) = every other_reason ds ≡ true → unread_from true 2 ls ≡ None
 
 lines_read : (ls : List (List ℕ)) (o : Option Clocked) → ReadBy ls (mended_by o (blocks_of ls))
-lines_read ls none = tt
-lines_read ls (some c) =
+lines_read ls None = tt
+lines_read ls (Some c) =
     either (ReadBy ls) (clocked_rule c)
     (λ r d.
     let b = blocks_of ls in
@@ -353,15 +354,15 @@ lines_read ls (some c) =
     (λ r. tt)
 
 clock_there : (o : Option Clocked) (b : Blocks) (t : Table) (ds : List Dropped) → mended_by o b ≡ mended t ds → is_some o ≡ true
-clock_there none b t ds e = let z : ◌≡◌ {A = ℕ} 0 1 = cc in absurd (omega arith)
-clock_there (some c) b t ds e = refl
+clock_there None b t ds e = let z : ◌≡◌ {A = ℕ} 0 1 = cc in absurd (omega arith)
+clock_there (Some c) b t ds e = refl
 
-lines_all_read : (ls : List (List ℕ)) (t : Table) (ds : List Dropped) → mend_lines ls ≡ mended t ds → every other_reason ds ≡ true → first_unread ls ≡ none
+lines_all_read : (ls : List (List ℕ)) (t : Table) (ds : List Dropped) → mend_lines ls ≡ mended t ds → every other_reason ds ≡ true → first_unread ls ≡ None
 unfolding mend_lines first_unread
 lines_all_read [] t ds e d = let z : ◌≡◌ {A = ℕ} 0 1 = cc in absurd (omega arith)
 lines_all_read (l ∷ ls) t ds e d =
     rw (clock_there (read_clock l) (blocks_of ls) t ds e) (subst (ReadBy ls) e (lines_read ls (read_clock l)) d)
 
-pub no_line_reads : (s : List ℕ) (t : Table) (ds : List Dropped) → mend s ≡ mended t ds → every other_reason ds ≡ true → first_unread (lines_of s) ≡ none
+pub no_line_reads : (s : List ℕ) (t : Table) (ds : List Dropped) → mend s ≡ mended t ds → every other_reason ds ≡ true → first_unread (lines_of s) ≡ None
 unfolding mend
 no_line_reads s t ds e d = lines_all_read (lines_of s) t ds e d

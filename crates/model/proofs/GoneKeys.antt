@@ -4,7 +4,7 @@
 use Prim.Native.Nat.{ℕ}
 use mathlib.Core.Path.{◌≡◌, refl}
 use mathlib.Core.Bool.{true, false}
-use mathlib.Core.Option.{none}
+use Rattle.std.specs.Prelude.{None}
 use mathlib.Core.List.{List, [], ◌∷◌, ◌++◌, map}
 use lib.ListN.{length}
 use lib.IntN.{pos, negsuc}
@@ -33,10 +33,10 @@ shows t (o ∷ os) = seen (operated t o) ∷ shows (operated t o).table os
 
 -- Done by an operator, with this pair and serial; refused with this number.
 abbrev done : ℕ → ℕ → Keys → Seen
-done pair serial keys = record { number = 0; length = 0; rcode = none; error = 0; skew = pos 0; pair = pair; serial = serial; tkey = none; keys = keys }
+done pair serial keys = record { number = 0; length = 0; rcode = None; error = 0; skew = pos 0; pair = pair; serial = serial; tkey = None; keys = keys }
 
 abbrev numbered : ℕ → Keys → Seen
-numbered n keys = record { number = n; length = 0; rcode = none; error = 0; skew = pos 0; pair = 0; serial = 0; tkey = none; keys = keys }
+numbered n keys = record { number = n; length = 0; rcode = None; error = 0; skew = pos 0; pair = 0; serial = 0; tkey = None; keys = keys }
 
 -- BADKEY.
 abbrev unknown : Keys → Seen

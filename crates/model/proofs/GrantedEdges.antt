@@ -2,13 +2,12 @@
 -- nothing.
 use mathlib.Core.Path.{◌≡◌, refl}
 use mathlib.Core.Bool.{true, false}
-use mathlib.Core.Option.{none, some}
+use Rattle.std.specs.Prelude.{None, Some}
 use mathlib.Core.List.{[], ◌∷◌, ◌++◌}
 use lib.ListN.{replicate}
 use Rattle.model.specs.declared.Algorithm.TheVariants.{Sha256, Sha384}
 use Rattle.model.specs.declared.Holding.TheVariants as Holding
 use Rattle.model.specs.declared.Asking.TheVariants.{Ordinary, Renewal, Adoption, Deletion}
-use Rattle.model.specs.declared.OpenRequest.TheVariants as OpenRequest
 use Rattle.model.specs.declared.Resolver.{Resolver}
 use Rattle.model.specs.Names.{key_name, algorithm_name}
 use Rattle.model.specs.Resolver.{unwritten}
@@ -22,41 +21,41 @@ open_granted s = s
 
 -- The TKEYs of ResolverEdges bring the octets 7 and 7. A key offered before makes no difference.
 pub brought :
-    (granted_data (awaiting Renewal) true (good 4098) ≡ some (7 ∷ 7 ∷ []))
-    × (granted_data (state Holding.Adopted (OpenRequest.Sent 4660 Renewal) true) true (reply 0x80f0 1 0 (tkey 4098 0 (algorithm_name Sha384) []) 0)
-    ≡ some (7 ∷ 7 ∷ []))
+    (granted_data (awaiting Renewal) true (good 4098) ≡ Some (7 ∷ 7 ∷ []))
+    × (granted_data (state Holding.Adopted (Some (record { id = 4660; asking = Renewal })) true) true (reply 0x80f0 1 0 (tkey 4098 0 (algorithm_name Sha384) []) 0)
+    ≡ Some (7 ∷ 7 ∷ []))
 unfolding open_granted
 brought = (refl, refl)
 
 -- A refusal brings none: LOST, WRONGID, UNSIGNED for its two reasons, FORMAT.
 pub refused :
-    (granted_data lost true (good 4098) ≡ none)
-    × (granted_data other_id true (good 4098) ≡ none)
-    × (granted_data (awaiting Renewal) true bare ≡ none)
-    × (granted_data (awaiting Renewal) false (good 4098) ≡ none)
-    × (granted_data (awaiting Renewal) true (replicate 11 0) ≡ none)
-    × (granted_data (awaiting Renewal) true (good 4098 ++ (0 ∷ [])) ≡ none)
+    (granted_data lost true (good 4098) ≡ None)
+    × (granted_data other_id true (good 4098) ≡ None)
+    × (granted_data (awaiting Renewal) true bare ≡ None)
+    × (granted_data (awaiting Renewal) false (good 4098) ≡ None)
+    × (granted_data (awaiting Renewal) true (replicate 11 0) ≡ None)
+    × (granted_data (awaiting Renewal) true (good 4098 ++ (0 ∷ [])) ≡ None)
 unfolding open_granted
 refused = (refl, refl, refl, refl, refl, refl)
 
 -- Nor does the reply to another request, or one of another mode.
 pub other_requests :
-    (granted_data (awaiting Adoption) true (good 4100) ≡ none)
-    × (granted_data (awaiting Deletion) true (good 5) ≡ none)
-    × (granted_data (awaiting Ordinary) true (good 4098) ≡ none)
-    × (granted_data (awaiting Renewal) true (good 4100) ≡ none)
+    (granted_data (awaiting Adoption) true (good 4100) ≡ None)
+    × (granted_data (awaiting Deletion) true (good 5) ≡ None)
+    × (granted_data (awaiting Ordinary) true (good 4098) ≡ None)
+    × (granted_data (awaiting Renewal) true (good 4100) ≡ None)
 unfolding open_granted
 other_requests = (refl, refl, refl, refl)
 
 -- Nor one with an error (TKEY, RCODE, TSIG; QR 0), an unknown algorithm, two TKEYs, or to a resolver with no key.
 pub ungranted :
-    (granted_data (awaiting Renewal) true (reply 0x8000 1 0 (tkey 4098 21 (algorithm_name Sha256) []) 0) ≡ none)
-    × (granted_data (awaiting Renewal) true (reply 0x8001 1 0 (tkey 4098 0 (algorithm_name Sha256) []) 0) ≡ none)
-    × (granted_data (awaiting Renewal) true (reply 0x8000 1 0 (tkey 4098 0 (algorithm_name Sha256) []) 18) ≡ none)
-    × (granted_data (awaiting Renewal) true (reply 0 1 0 (tkey 4098 0 (algorithm_name Sha256) []) 0) ≡ none)
-    × (granted_data (awaiting Renewal) true (reply 0x8000 1 0 (tkey 4098 0 (1 ∷ 120 ∷ 0 ∷ []) []) 0) ≡ none)
-    × (granted_data (awaiting Renewal) true (reply 0x8000 2 0 (tkey 4098 0 (algorithm_name Sha256) [] ++ tkey 4098 0 (algorithm_name Sha256) []) 0) ≡ none)
-    × (granted_data (state Holding.Nothing (OpenRequest.Sent 4660 Renewal) true) true (good 4098) ≡ none)
+    (granted_data (awaiting Renewal) true (reply 0x8000 1 0 (tkey 4098 21 (algorithm_name Sha256) []) 0) ≡ None)
+    × (granted_data (awaiting Renewal) true (reply 0x8001 1 0 (tkey 4098 0 (algorithm_name Sha256) []) 0) ≡ None)
+    × (granted_data (awaiting Renewal) true (reply 0x8000 1 0 (tkey 4098 0 (algorithm_name Sha256) []) 18) ≡ None)
+    × (granted_data (awaiting Renewal) true (reply 0 1 0 (tkey 4098 0 (algorithm_name Sha256) []) 0) ≡ None)
+    × (granted_data (awaiting Renewal) true (reply 0x8000 1 0 (tkey 4098 0 (1 ∷ 120 ∷ 0 ∷ []) []) 0) ≡ None)
+    × (granted_data (awaiting Renewal) true (reply 0x8000 2 0 (tkey 4098 0 (algorithm_name Sha256) [] ++ tkey 4098 0 (algorithm_name Sha256) []) 0) ≡ None)
+    × (granted_data (state Holding.Nothing (Some (record { id = 4660; asking = Renewal })) true) true (good 4098) ≡ None)
 unfolding open_granted
 ungranted = (refl, refl, refl, refl, refl, refl, refl)
 
@@ -65,7 +64,7 @@ pub starts :
     held lost (key_name 1 suffix) 256 1000 1600
     ≡ record {
       number = 0;
-      state = record { holding = Holding.Adopted; adopted = first; offered = first; awaited = OpenRequest.Nothing; offered_signs = false };
+      state = record { holding = Holding.Adopted; adopted = first; offered = first; awaited = None; offered_signs = false };
     }
 unfolding open_granted
 starts = refl

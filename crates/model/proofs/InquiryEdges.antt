@@ -1,7 +1,7 @@
 -- Worked examples of the inquiries, computed by antt: each answer, each refusal, and refusals in their order. Assumes nothing.
 use Prim.Native.Nat.{ℕ}
 use mathlib.Core.Path.{◌≡◌, refl}
-use mathlib.Core.Option.{Option, none, some}
+use Rattle.std.specs.Prelude.{Option, None, Some}
 use mathlib.Core.List.{List, [], ◌∷◌, ◌++◌}
 use lib.ListN.{replicate}
 use Rattle.model.specs.declared.Algorithm.TheVariants.{Sha256, Sha384}
@@ -161,7 +161,7 @@ other_moves = (refl, refl, refl, refl, refl)
 -- ── Of a message ────────────────────────────────────────────────────────────────────────────────────────────────────
 
 abbrev refuses : ℕ → ℕ → Asks
-refuses n place = record { number = n; place = place; mode = 0; algorithm = 0; inception = 0; expiration = 0; key = []; second = none }
+refuses n place = record { number = n; place = place; mode = 0; algorithm = 0; inception = 0; expiration = 0; key = []; second = None }
 
 abbrev asks : ℕ → ℕ → ℕ → ℕ → List ℕ → Option (List ℕ) → Asks
 asks mode algorithm inception expiration key second =
@@ -179,19 +179,19 @@ other_key = record_octets (0 ∷ []) 25 255 0 (9 ∷ [])
 
 pub requests :
     -- a renewal by its KEY record; for an algorithm that no key has; an adoption, and a deletion with key data
-    (asks_of (renewal_by 1 1200) ≡ asks 4098 256 1200 1800 [] (some (2 ∷ 0 ∷ 3 ∷ 1 ∷ [])))
-    × (asks_of (renewal_of (4 ∷ 104 ∷ 109 ∷ 97 ∷ 99 ∷ 0 ∷ []) 1 1200 1800 1200) ≡ asks 4098 0 1200 1800 [] (some (2 ∷ 0 ∷ 3 ∷ 1 ∷ [])))
-    × (asks_of (adoption_by 1 3 1202) ≡ asks 4100 256 0 0 [] none)
-    × (asks_of (tkey_by 1 1 5 (1 ∷ 2 ∷ 3 ∷ []) [] 1200) ≡ asks 5 256 0 0 (1 ∷ 2 ∷ 3 ∷ []) none)
+    (asks_of (renewal_by 1 1200) ≡ asks 4098 256 1200 1800 [] (Some (2 ∷ 0 ∷ 3 ∷ 1 ∷ [])))
+    × (asks_of (renewal_of (4 ∷ 104 ∷ 109 ∷ 97 ∷ 99 ∷ 0 ∷ []) 1 1200 1800 1200) ≡ asks 4098 0 1200 1800 [] (Some (2 ∷ 0 ∷ 3 ∷ 1 ∷ [])))
+    × (asks_of (adoption_by 1 3 1202) ≡ asks 4100 256 0 0 [] None)
+    × (asks_of (tkey_by 1 1 5 (1 ∷ 2 ∷ 3 ∷ []) [] 1200) ≡ asks 5 256 0 0 (1 ∷ 2 ∷ 3 ∷ []) None)
     -- signed or not; with one KEY, with none, with two
-    × (asks_of (request_of 4097 2 key_record) ≡ asks 4097 384 1000 1600 (7 ∷ 8 ∷ []) (some (2 ∷ 0 ∷ 3 ∷ 1 ∷ [])))
-    × (asks_of (request_of 4099 1 []) ≡ asks 4099 384 1000 1600 (7 ∷ 8 ∷ []) none)
-    × (asks_of (request_of 4097 3 (key_record ++ other_key)) ≡ asks 4097 384 1000 1600 (7 ∷ 8 ∷ []) none)
+    × (asks_of (request_of 4097 2 key_record) ≡ asks 4097 384 1000 1600 (7 ∷ 8 ∷ []) (Some (2 ∷ 0 ∷ 3 ∷ 1 ∷ [])))
+    × (asks_of (request_of 4099 1 []) ≡ asks 4099 384 1000 1600 (7 ∷ 8 ∷ []) None)
+    × (asks_of (request_of 4097 3 (key_record ++ other_key)) ≡ asks 4097 384 1000 1600 (7 ∷ 8 ∷ []) None)
     -- a KEY with no data is one
-    × (asks_of (request_of 4099 2 (record_octets (0 ∷ []) 25 255 0 [])) ≡ asks 4099 384 1000 1600 (7 ∷ 8 ∷ []) (some []))
+    × (asks_of (request_of 4099 2 (record_octets (0 ∷ []) 25 255 0 [])) ≡ asks 4099 384 1000 1600 (7 ∷ 8 ∷ []) (Some []))
     -- a TKEY of mode 0 reads as asking for nothing; a mode that is unknown as itself
-    × (asks_of (request_of 0 1 []) ≡ asks 0 384 1000 1600 (7 ∷ 8 ∷ []) none)
-    × (asks_of (request_of 77 1 []) ≡ asks 77 384 1000 1600 (7 ∷ 8 ∷ []) none)
+    × (asks_of (request_of 0 1 []) ≡ asks 0 384 1000 1600 (7 ∷ 8 ∷ []) None)
+    × (asks_of (request_of 77 1 []) ≡ asks 77 384 1000 1600 (7 ∷ 8 ∷ []) None)
 unfolding opened
 requests = (refl, refl, refl, refl, refl, refl, refl, refl, refl, refl)
 

@@ -3,7 +3,7 @@
 use Prim.Native.Nat.{ℕ, zero, suc, ◌+◌}
 use mathlib.Core.Path.{◌≡◌, refl}
 use mathlib.Core.Bool.{Bool, true, false}
-use mathlib.Core.Option.{Option, none, some}
+use Rattle.std.specs.Prelude.{Option, None, Some}
 use mathlib.Core.List.{List, [], ◌∷◌, ◌++◌}
 use lib.IntN.{pos}
 use Rattle.model.specs.declared.Algorithm.{Algorithm}
@@ -33,7 +33,7 @@ shown t time good octets = seen (sent t time good octets)
 -- A header and the root's question, 17 octets, with an RCODE; of no pair.
 abbrev told : ℕ → ℕ → ℕ → ℕ → Keys → Seen
 told rcode error pair serial keys =
-    record { number = 0; length = 17; rcode = some rcode; error = error; skew = pos 0; pair = pair; serial = serial; tkey = none; keys = keys }
+    record { number = 0; length = 17; rcode = Some rcode; error = error; skew = pos 0; pair = pair; serial = serial; tkey = None; keys = keys }
 
 -- A query signed with this name and algorithm, at `time` with this fudge and a MAC of `size` octets.
 abbrev query : List ℕ → List ℕ → ℕ → ℕ → ℕ → List ℕ
@@ -52,7 +52,7 @@ pub unsigned_ones :
     (shown enrolled 1000 false (header 1 0 ++ (root_query ++ tsig 1 1000)) ≡ told 1 0 0 0 (Adopted first))
     × (shown enrolled 1000 false (header 0 0 ++ question (0 ∷ []) 249 255) ≡ told 5 0 0 0 (Adopted first))
     × (shown enrolled 1000 false (header 0 0 ++ root_query)
-    ≡ record { number = 0; length = 0; rcode = none; error = 0; skew = pos 0; pair = 0; serial = 0; tkey = none; keys = Adopted first })
+    ≡ record { number = 0; length = 0; rcode = None; error = 0; skew = pos 0; pair = 0; serial = 0; tkey = None; keys = Adopted first })
 unfolding seen after
 unsigned_ones = (refl, refl, refl)
 
@@ -159,7 +159,7 @@ abbrev of_mode : ℕ → Option ℕ × Option ℕ × Keys
 of_mode mode = ended (shown enrolled 1000 true (tkey_by 1 1 mode [] [] 1000))
 
 abbrev bad_mode : Option ℕ × Option ℕ × Keys
-bad_mode = (some 0, some 19, Adopted first)
+bad_mode = (Some 0, Some 19, Adopted first)
 
 pub bad_modes : (of_mode 0 ≡ bad_mode) × (of_mode 4 ≡ bad_mode) × (of_mode 4096 ≡ bad_mode) × (of_mode 4101 ≡ bad_mode) × (of_mode 65535 ≡ bad_mode)
 unfolding seen after
@@ -173,7 +173,7 @@ pub steps_in_order :
     × (shown enrolled 1400 true (ordinary 1 5000) ≡ told 9 18 1 1 (Adopted first))
     × (shown enrolled 1400 true (request 0 0 0 [] 1400) ≡ told 1 0 1 1 (Adopted first))
     × (shown enrolled 1400 true (tkey_by 1 1 1 [] [] 1400)
-    ≡ record { number = 0; length = 29; rcode = some 9; error = 3841; skew = pos 0; pair = 1; serial = 1; tkey = none; keys = Adopted first })
+    ≡ record { number = 0; length = 29; rcode = Some 9; error = 3841; skew = pos 0; pair = 1; serial = 1; tkey = None; keys = Adopted first })
 unfolding seen after
 steps_in_order = (refl, refl, refl, refl, refl, refl)
 
@@ -193,7 +193,7 @@ abbrev renewed : ℕ → List ℕ → List ℕ → Option ℕ × Option ℕ × K
 renewed next offer octets = ended (seen (operated (one 1000 next (Adopted first)) (call (message (unkeyed 1200 true offer) 512 octets))))
 
 abbrev failed : ℕ → Option ℕ × Option ℕ × Keys
-failed error = (some 0, some error, Adopted first)
+failed error = (Some 0, Some error, Adopted first)
 
 abbrev unknown_name : List ℕ
 unknown_name = 1 ∷ 120 ∷ 0 ∷ []
@@ -225,7 +225,7 @@ renewal_order = (refl, refl, refl, refl, refl)
 -- "Then a waiting key is made with the next serial, the requested algorithm, ..": the last serial, an offer of one octet, and each algorithm, in either case.
 abbrev granted : ℕ → Algorithm → Option ℕ × Option ℕ × Keys
 granted serial g =
-    (some 0, some 0, Renewing (key 1 1000 1200 1600) record { serial = serial; algorithm = g; inception = 1200; partial = 1600; expiry = 1800 })
+    (Some 0, Some 0, Renewing (key 1 1000 1200 1600) record { serial = serial; algorithm = g; inception = 1200; partial = 1600; expiry = 1800 })
 
 pub renewals :
     (renewed 0xffff_ffff (1 ∷ []) (renewal (old 1) 1 (algorithm_name Sha384) 1800) ≡ granted 0xffff_ffff Sha384)
@@ -247,9 +247,9 @@ keys_elsewhere = (refl, refl)
 -- ".. replacing any waiting key; the signing key's partial time becomes the earlier of itself and now": before its partial time and after it. The waiting key
 -- is no old key.
 pub renewals_again :
-    (ended (shown (one 1200 3 renewing) 1300 true (renewal_by 1 1300)) ≡ (some 0, some 0, Renewing (key 1 1000 1300 1600) (key 3 1300 1700 1900)))
-    × (ended (shown (one 1200 3 renewing) 1500 true (renewal_by 1 1500)) ≡ (some 0, some 0, Renewing first (key 3 1500 1900 2100)))
-    × (ended (shown (one 1200 3 renewing) 1200 true (renewal (old 2) 1 (algorithm_name Sha256) 1800)) ≡ (some 0, some 17, renewing))
+    (ended (shown (one 1200 3 renewing) 1300 true (renewal_by 1 1300)) ≡ (Some 0, Some 0, Renewing (key 1 1000 1300 1600) (key 3 1300 1700 1900)))
+    × (ended (shown (one 1200 3 renewing) 1500 true (renewal_by 1 1500)) ≡ (Some 0, Some 0, Renewing first (key 3 1500 1900 2100)))
+    × (ended (shown (one 1200 3 renewing) 1200 true (renewal (old 2) 1 (algorithm_name Sha256) 1800)) ≡ (Some 0, Some 17, renewing))
 unfolding seen after
 renewals_again = (refl, refl, refl)
 
@@ -263,14 +263,14 @@ adopting name g old =
 -- "NAME and Algorithm are the adopted key's: no error, no change": the waiting key stays, whatever the old key. "Not the waiting key's either: BADNAME":
 -- another name, whatever the old key, or another algorithm. "OldName or OldAlgorithm not the signing key's: BADKEY. Else the waiting key becomes adopted".
 pub adoptions :
-    (adopting (key_name 1 suffix) Sha256 (old 1) ≡ (some 0, some 0, renewing))
-    × (adopting (key_name 1 suffix) Sha256 (old 9) ≡ (some 0, some 0, renewing))
-    × (adopting (key_name 9 suffix) Sha256 (old 9) ≡ (some 0, some 20, renewing))
-    × (adopting (key_name 1 suffix) Sha384 (old 1) ≡ (some 0, some 20, renewing))
-    × (adopting (key_name 2 suffix) Sha384 (old 1) ≡ (some 0, some 20, renewing))
-    × (adopting (key_name 2 suffix) Sha256 (old 2) ≡ (some 0, some 17, renewing))
-    × (adopting (key_name 2 suffix) Sha256 (key_name 1 suffix ++ algorithm_name Sha384) ≡ (some 0, some 17, renewing))
-    × (adopting (key_name 2 suffix) Sha256 (old 1) ≡ (some 0, some 0, Adopted (key 2 1200 1600 1800)))
+    (adopting (key_name 1 suffix) Sha256 (old 1) ≡ (Some 0, Some 0, renewing))
+    × (adopting (key_name 1 suffix) Sha256 (old 9) ≡ (Some 0, Some 0, renewing))
+    × (adopting (key_name 9 suffix) Sha256 (old 9) ≡ (Some 0, Some 20, renewing))
+    × (adopting (key_name 1 suffix) Sha384 (old 1) ≡ (Some 0, Some 20, renewing))
+    × (adopting (key_name 2 suffix) Sha384 (old 1) ≡ (Some 0, Some 20, renewing))
+    × (adopting (key_name 2 suffix) Sha256 (old 2) ≡ (Some 0, Some 17, renewing))
+    × (adopting (key_name 2 suffix) Sha256 (key_name 1 suffix ++ algorithm_name Sha384) ≡ (Some 0, Some 17, renewing))
+    × (adopting (key_name 2 suffix) Sha256 (old 1) ≡ (Some 0, Some 0, Adopted (key 2 1200 1600 1800)))
 unfolding seen after
 adoptions = (refl, refl, refl, refl, refl, refl, refl, refl)
 
@@ -279,11 +279,11 @@ abbrev deleting : ℕ → Algorithm → Option ℕ × Option ℕ × Keys
 deleting n g = ended (shown (one 1200 3 renewing) 1300 true (request 0 0 1 (deletion n g) 1300))
 
 pub deletions :
-    (deleting 1 Sha256 ≡ (some 0, some 0, Empty))
-    × (deleting 1 Sha384 ≡ (some 0, some 0, Empty))
-    × (deleting 2 Sha256 ≡ (some 0, some 0, Adopted first))
-    × (deleting 2 Sha384 ≡ (some 0, some 0, Adopted first))
-    × (deleting 9 Sha256 ≡ (some 0, some 20, renewing))
+    (deleting 1 Sha256 ≡ (Some 0, Some 0, Empty))
+    × (deleting 1 Sha384 ≡ (Some 0, Some 0, Empty))
+    × (deleting 2 Sha256 ≡ (Some 0, Some 0, Adopted first))
+    × (deleting 2 Sha384 ≡ (Some 0, Some 0, Adopted first))
+    × (deleting 9 Sha256 ≡ (Some 0, Some 20, renewing))
 unfolding seen after
 deletions = (refl, refl, refl, refl, refl)
 
@@ -306,10 +306,10 @@ abbrev tkey_for : ℕ → List ℕ → List ℕ → List ℕ
 tkey_for mode name old = request 0 0 1 (record_octets name 249 255 0 (tkey_data (algorithm_name Sha256) 0 0 mode 0 [] old)) 1300
 
 pub other_pairs :
-    (crossing (tkey_for 5 (key_name 1 other_suffix) []) ≡ (some 0, some 20, renewing))
-    × (crossing (tkey_for 5 (key_name 2 other_suffix) []) ≡ (some 0, some 20, renewing))
-    × (crossing (tkey_for 4100 (key_name 2 other_suffix) (old 1)) ≡ (some 0, some 20, renewing))
-    × (crossing (tkey_for 4100 (key_name 2 suffix) (key_name 1 other_suffix ++ algorithm_name Sha256)) ≡ (some 0, some 17, renewing))
+    (crossing (tkey_for 5 (key_name 1 other_suffix) []) ≡ (Some 0, Some 20, renewing))
+    × (crossing (tkey_for 5 (key_name 2 other_suffix) []) ≡ (Some 0, Some 20, renewing))
+    × (crossing (tkey_for 4100 (key_name 2 other_suffix) (old 1)) ≡ (Some 0, Some 20, renewing))
+    × (crossing (tkey_for 4100 (key_name 2 suffix) (key_name 1 other_suffix ++ algorithm_name Sha256)) ≡ (Some 0, Some 17, renewing))
 unfolding seen after
 other_pairs = (refl, refl, refl, refl)
 

@@ -3,9 +3,9 @@
 use Prim.Native.Nat.{ℕ, ◌+◌}
 use mathlib.Core.Path.{◌≡◌, refl}
 use mathlib.Core.Bool.{Bool, true, false}
-use mathlib.Core.Option.{Option, none, some}
+use Rattle.std.specs.Prelude.{Option, None, Some, slice_get}
 use mathlib.Core.List.{List, [], ◌∷◌, ◌++◌, map}
-use lib.ListN.{length, replicate, get_elem?}
+use lib.ListN.{length, replicate}
 use Rattle.model.specs.declared.Algorithm.TheVariants.{Sha256}
 use Rattle.model.specs.declared.BatchItem.{BatchItem}
 use Rattle.model.specs.declared.Key.{Key}
@@ -114,10 +114,10 @@ ends mode =
 
 -- The TKEY error of a reply; and a refusal.
 abbrev fails : ℕ → ℕ × Option ℕ
-fails error = (0, some error)
+fails error = (0, Some error)
 
 abbrev refuses : ℕ → ℕ × Option ℕ
-refuses number = (number, none)
+refuses number = (number, None)
 
 -- 17 is BADKEY, 21 BADALG, 18 BADTIME; 19 is KEYREC, 8 ROOM. 4098 does not look at the keying verdict, 4099 not at the offer, and 4097 alone at the record.
 pub ends_4097 : ends 4097 ≡ fails 17 ∷ fails 1 ∷ fails 1 ∷ fails 17 ∷ fails 21 ∷ fails 18 ∷ fails 2 ∷ refuses 19 ∷ refuses 8 ∷ fails 0 ∷ []
@@ -157,10 +157,10 @@ offer_first = refl
 
 -- Other data that is OldName alone is ill formed in every mode (step 6): RCODE 1 and no TKEY.
 abbrev rcode : Result → Option ℕ
-rcode r = get_elem? r.outcome.reply 3
+rcode r = slice_get r.outcome.reply 3
 
 pub old_name_alone :
-    map (λ mode. rcode (served 1200 nonce true server 512 (tkey_by 1 1 mode [] (key_name 1 suffix) 1200))) (4097 ∷ 4098 ∷ 4099 ∷ []) ≡ replicate 3 (some 1)
+    map (λ mode. rcode (served 1200 nonce true server 512 (tkey_by 1 1 mode [] (key_name 1 suffix) 1200))) (4097 ∷ 4098 ∷ 4099 ∷ []) ≡ replicate 3 (Some 1)
 unfolding opening after
 old_name_alone = refl
 
@@ -214,7 +214,7 @@ renewed = (served 1200 nonce true server 512 (good 4097)).table
 
 pub not_looked_at :
     (map (λ octets. end (served 1200 nonce true junk 512 octets)) (good 4098 ∷ good 4099 ∷ asking 1200 4097 1 (0 ∷ []) 1200 1 key_record ∷ ordinary 1 1200 ∷ [])
-    ≡ fails 0 ∷ fails 0 ∷ fails 21 ∷ (0, none) ∷ [])
+    ≡ fails 0 ∷ fails 0 ∷ fails 21 ∷ (0, None) ∷ [])
     × (end (asked renewed 1201 nonce true junk 512 (adoption_by 1 2 1201)) ≡ fails 0)
 unfolding opening after
 not_looked_at = (refl, refl)

@@ -1,7 +1,7 @@
 -- A line that is written reads back, and a line that reads is what is written; the lines of a text, and the text again. Assumes nothing.
 use mathlib.Core.Path.{◌≡◌, refl, ap, ◌∙◌, subst}
 use mathlib.Core.Bool.{Bool, true, false}
-use mathlib.Core.Option.{some}
+use Rattle.std.specs.Prelude.{Some}
 use mathlib.Core.List.{List, [], ◌∷◌, ◌++◌, append_assoc}
 use Prim.Native.Nat.{ℕ, ◌≤◌, ◌<◌}
 use native.Mathlib.Omega.{arith}
@@ -31,12 +31,12 @@ Word64 n = n < 0x1_0000_0000_0000_0000
 clock_fields_plain : (clock floor : ℕ) → all_plain (numeral clock ∷ numeral floor ∷ []) ≡ true
 clock_fields_plain clock floor = both (plain (numeral clock)) _ (numeral_plain clock) (both (plain (numeral floor)) true (numeral_plain floor) refl)
 
-pub clock_back : (clock floor : ℕ) → Word64 clock → Word64 floor → read_clock (clock_line clock floor) ≡ some (record { clock = clock; floor = floor })
+pub clock_back : (clock floor : ℕ) → Word64 clock → Word64 floor → read_clock (clock_line clock floor) ≡ Some (record { clock = clock; floor = floor })
 unfolding read_clock clock_line tabbed
 clock_back clock floor a b =
     worded_back clock_word (numeral clock ∷ numeral floor ∷ []) clock_said refl (clock_fields_plain clock floor) ∙ rw (number_back clock a, number_back floor b) refl
 
-pub clock_is : (l : List ℕ) (c : Clocked) → read_clock l ≡ some c → l ≡ clock_line c.clock c.floor
+pub clock_is : (l : List ℕ) (c : Clocked) → read_clock l ≡ Some c → l ≡ clock_line c.clock c.floor
 unfolding read_clock clock_line tabbed
 clock_is l c e =
     let w = worded_is clock_word l clock_said c e in
@@ -61,7 +61,7 @@ pub pair_back :
     → Word64 p.next_serial
     → Word64 p.lifetime
     → Word64 p.fresh
-    → read_pair (pair_line suffix p) ≡ some (bare suffix p)
+    → read_pair (pair_line suffix p) ≡ Some (bare suffix p)
 unfolding read_pair pair_line tabbed
 pair_back suffix p o a b n l f =
     let r : Row = record { suffix = suffix; pair = p } in
@@ -73,7 +73,7 @@ pub record PairSaid (l : List ℕ) (r : Row) : Type 0 where
   pub is : l ≡ pair_line r.suffix r.pair
   pub octets : are_octets r.suffix ≡ true
 
-pub pair_is : (l : List ℕ) (r : Row) → read_pair l ≡ some r → PairSaid l r
+pub pair_is : (l : List ℕ) (r : Row) → read_pair l ≡ Some r → PairSaid l r
 unfolding read_pair pair_line tabbed
 pair_is l r e =
     let w = worded_is pair_word l pair_said r e in
@@ -102,7 +102,7 @@ state_plain : (b : Bool) → plain (state_word b) ≡ true
 state_plain true = adopted_plain
 state_plain false = waiting_plain
 
-pub key_back : (b : Bool) (k : Key) → KeyFits k → read_key (key_line (state_word b) k) ≡ some (record { adopted = b; key = k })
+pub key_back : (b : Bool) (k : Key) → KeyFits k → read_key (key_line (state_word b) k) ≡ Some (record { adopted = b; key = k })
 unfolding read_key key_line tabbed
 key_back b k f =
     worded_back key_word (key_fields (state_word b) k) key_said refl (key_plain (state_word b) k (state_plain b))
@@ -121,7 +121,7 @@ fields_in k = key_fields (state_word k.adopted) k.key
 
 times_are :
     (adopted : Bool) (serial : ℕ) (algorithm : Algorithm) (fs : List (List ℕ)) (k : Stated)
-    → times_said adopted serial algorithm fs ≡ some k
+    → times_said adopted serial algorithm fs ≡ Some k
     → state_word adopted ∷ numeral serial ∷ algorithm_word algorithm ∷ fs ≡ fields_in k
 times_are adopted serial algorithm fs k e =
     let a = number_field_lem fs (λ n gs. field plain_number gs _) k e in
@@ -130,7 +130,7 @@ times_are adopted serial algorithm fs k e =
     let n = no_more_is c.1 (record { adopted = adopted; key = record { serial = serial; algorithm = algorithm; inception = a.0; partial = b.0; expiry = c.0 } }) k c.3 in
     ap (λ (fs : List (List ℕ)). state_word adopted ∷ numeral serial ∷ algorithm_word algorithm ∷ fs) (fields_more a.2 (fields_more b.2 (fields_more c.2 n.0))) ∙ ap fields_in n.1
 
-pub key_is : (l : List ℕ) (k : Stated) → read_key l ≡ some k → l ≡ key_line (state_word k.adopted) k.key
+pub key_is : (l : List ℕ) (k : Stated) → read_key l ≡ Some k → l ≡ key_line (state_word k.adopted) k.key
 unfolding read_key key_line tabbed
 key_is l k e =
     let w = worded_is key_word l key_said k e in

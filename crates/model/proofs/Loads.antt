@@ -1,7 +1,8 @@
 -- Loading and listing undo each other (02, CR 7). Assumes nothing.
 use mathlib.Core.Path.{◌≡◌, refl, sym, ap, ap₂, ◌∙◌, subst}
 use mathlib.Core.Bool.{Bool, true, false, cond, ◌&&◌, not, false≢true}
-use mathlib.Core.Option.{Option, none, some, some-injective, none-ne-some}
+use Rattle.std.specs.Prelude.{Option, None, Some}
+use Rattle.std.proofs.lemmas.Option.{same_Some, none-some}
 use mathlib.Core.List.{List, [], ◌∷◌, ◌++◌, append_assoc, map}
 use Prim.Native.Nat.{ℕ, suc, ◌≤◌}
 use native.Mathlib.Omega.{arith}
@@ -92,13 +93,13 @@ pub record RowFits (r : Row) : Type 0 where
   pub fresh_fits : Word64 r.pair.fresh
   pub keys_fit : KeysFit r.pair.keys
 
-keys_said : (ks : Keys) → KeysFit ks → (ss : List Stated) × (read_keys (keys_below ks) ≡ some ss) × (keys_of ss ≡ some ks)
+keys_said : (ks : Keys) → KeysFit ks → (ss : List Stated) × (read_keys (keys_below ks) ≡ Some ss) × (keys_of ss ≡ Some ks)
 unfolding read_keys keys_of
 keys_said Empty f = ([], refl, refl)
 keys_said (Adopted a) f = (record { adopted = true; key = a } ∷ [], rw (key_back true a f) refl, refl)
 keys_said (Renewing a w) f = (record { adopted = true; key = a } ∷ record { adopted = false; key = w } ∷ [], rw (key_back true a f.0, key_back false w f.1) refl, refl)
 
-pub row_said : (r : Row) → RowFits r → entry_of (block_of r) ≡ says r.suffix (some r.pair)
+pub row_said : (r : Row) → RowFits r → entry_of (block_of r) ≡ says r.suffix (Some r.pair)
 unfolding entry_of with_keys
 row_said r f =
     let p = r.pair in
@@ -109,12 +110,12 @@ abbrev AllFit : List Row → Type 0
 AllFit [] = Unit {0}
 AllFit (r ∷ rs) = RowFits r × AllFit rs
 
-rows_said : (rs : List Row) → AllFit rs → rows_of (map block_of rs) ≡ some rs
+rows_said : (rs : List Row) → AllFit rs → rows_of (map block_of rs) ≡ Some rs
 unfolding rows_of
 rows_said [] f = refl
 rows_said (r ∷ rs) f = rw (row_said r f.0, rows_said rs f.1) refl
 
-table_said_lem : (t : Table) → Word64 t.clock → Word64 t.floor → AllFit t.rows → table_said (lines_of (listing t)) ≡ some t
+table_said_lem : (t : Table) → Word64 t.clock → Word64 t.floor → AllFit t.rows → table_said (lines_of (listing t)) ≡ Some t
 unfolding table_said
 table_said_lem t c f a = rw (listing_lines_lem t, clock_back t.clock t.floor c f, rows_belong t.rows, rows_said t.rows a) refl
 
@@ -153,7 +154,7 @@ pub table_fits : (t : Table) → table_rules t ≡ true → every are_octets (na
 unfolding names_of
 table_fits t r o = let u = tests t r in rows_fit t.clock t.rows o u.1.1.0 u.1.1.1.1.0
 
-pub listing_said : (t : Table) → table_rules t ≡ true → every are_octets (names_of t) ≡ true → table_said (lines_of (listing t)) ≡ some t
+pub listing_said : (t : Table) → table_rules t ≡ true → every are_octets (names_of t) ≡ true → table_said (lines_of (listing t)) ≡ Some t
 listing_said t r o =
     let f = floor_ok t r in
     let c = early_clock t r in
@@ -175,26 +176,26 @@ blocks_flat (l ∷ ls) = ap (λ (x : List (List ℕ)). l ∷ x) (blocks_flat ls)
 abbrev stated : Stated → List ℕ
 stated k = key_line (state_word k.adopted) k.key
 
-keys_stated : (ls : List (List ℕ)) (ss : List Stated) → read_keys ls ≡ some ss → ls ≡ map stated ss
+keys_stated : (ls : List (List ℕ)) (ss : List Stated) → read_keys ls ≡ Some ss → ls ≡ map stated ss
 unfolding read_keys
-keys_stated [] ss e = ap (map stated) (some-injective [] ss e)
+keys_stated [] ss e = ap (map stated) (same_Some [] ss e)
 keys_stated (l ∷ ls) ss e =
-    let g = given_is (read_key l) (λ k. given (read_keys ls) λ ks. some (k ∷ ks)) ss e in
-    let h = given_is (read_keys ls) (λ ks. some (g.0 ∷ ks)) ss g.2 in
-    ap₂ (λ (x : List ℕ) (y : List (List ℕ)). x ∷ y) (key_is l g.0 g.1) (keys_stated ls h.0 h.1) ∙ ap (map stated) (some-injective (g.0 ∷ h.0) ss h.2)
+    let g = given_is (read_key l) (λ k. given (read_keys ls) λ ks. Some (k ∷ ks)) ss e in
+    let h = given_is (read_keys ls) (λ ks. Some (g.0 ∷ ks)) ss g.2 in
+    ap₂ (λ (x : List ℕ) (y : List (List ℕ)). x ∷ y) (key_is l g.0 g.1) (keys_stated ls h.0 h.1) ∙ ap (map stated) (same_Some (g.0 ∷ h.0) ss h.2)
 
-keys_order : (ss : List Stated) (ks : Keys) → keys_of ss ≡ some ks → map stated ss ≡ keys_below ks
+keys_order : (ss : List Stated) (ks : Keys) → keys_of ss ≡ Some ks → map stated ss ≡ keys_below ks
 unfolding keys_of
-keys_order [] ks e = ap keys_below (some-injective Empty ks e)
+keys_order [] ks e = ap keys_below (same_Some Empty ks e)
 keys_order (a ∷ []) ks e =
-    let p = only_if_some a.adopted (some (Adopted a.key)) ks e in
-    ap (λ (b : Bool). key_line (state_word b) a.key ∷ []) p.0 ∙ ap keys_below (some-injective (Adopted a.key) ks p.1)
+    let p = only_if_some a.adopted (Some (Adopted a.key)) ks e in
+    ap (λ (b : Bool). key_line (state_word b) a.key ∷ []) p.0 ∙ ap keys_below (same_Some (Adopted a.key) ks p.1)
 keys_order (a ∷ w ∷ []) ks e =
-    let p = only_if_some (a.adopted && not w.adopted) (some (Renewing a.key w.key)) ks e in
+    let p = only_if_some (a.adopted && not w.adopted) (Some (Renewing a.key w.key)) ks e in
     let yes : a.adopted ≡ true = left a.adopted (not w.adopted) p.0 in
     let no : w.adopted ≡ false = not-true w.adopted (right a.adopted (not w.adopted) p.0) in
-    ap₂ (λ (b c : Bool). key_line (state_word b) a.key ∷ key_line (state_word c) w.key ∷ []) yes no ∙ ap keys_below (some-injective (Renewing a.key w.key) ks p.1)
-keys_order (a ∷ w ∷ k ∷ ss) ks e = absurd (none-ne-some ks e)
+    ap₂ (λ (b c : Bool). key_line (state_word b) a.key ∷ key_line (state_word c) w.key ∷ []) yes no ∙ ap keys_below (same_Some (Renewing a.key w.key) ks p.1)
+keys_order (a ∷ w ∷ k ∷ ss) ks e = absurd (none-some ks e)
 
 -- What a block that says a row has in it: it is the row's block.
 pub record Said (b : Block) (r : Row) : Type 0 where
@@ -202,16 +203,16 @@ pub record Said (b : Block) (r : Row) : Type 0 where
   pub octets : are_octets r.suffix ≡ true
 
 said_row : (b : Block) (r q : Row) (ss : List Stated) (o : Option Keys)
-    → read_pair b.starts ≡ some q
-    → read_keys b.below ≡ some ss
+    → read_pair b.starts ≡ Some q
+    → read_keys b.below ≡ Some ss
     → keys_of ss ≡ o
-    → row_from (says q.suffix (given o λ keys. some (with_keys q.pair q.pair.next_serial keys))) ≡ some r
+    → row_from (says q.suffix (given o λ keys. Some (with_keys q.pair q.pair.next_serial keys))) ≡ Some r
     → Said b r
 unfolding pair_line with_keys
-said_row b r q ss none p k e f = absurd (none-ne-some r f)
-said_row b r q ss (some ks) p k e f =
+said_row b r q ss None p k e f = absurd (none-some r f)
+said_row b r q ss (Some ks) p k e f =
     let w : Row = record { suffix = q.suffix; pair = with_keys q.pair q.pair.next_serial ks } in
-    let same : w ≡ r = some-injective w r f in
+    let same : w ≡ r = same_Some w r f in
     let s = pair_is b.starts q p in
     let below : b.below ≡ keys_below ks = keys_stated b.below ss k ∙ keys_order ss ks e in
     let starts = s.is in
@@ -221,32 +222,32 @@ said_row b r q ss (some ks) p k e f =
       octets = subst (λ (r : Row). are_octets r.suffix ≡ true) same s.octets;
     }
 
-pub block_says : (b : Block) (r : Row) → row_from (entry_of b) ≡ some r → Said b r
+pub block_says : (b : Block) (r : Row) → row_from (entry_of b) ≡ Some r → Said b r
 unfolding entry_of
 block_says b r e = go (read_pair b.starts) (read_keys b.below) refl refl e
   where
-    go : (o : Option Row) (p : Option (List Stated)) → read_pair b.starts ≡ o → read_keys b.below ≡ p → row_from (entry_from o p) ≡ some r → Said b r
-    go none p x y e = absurd (none-ne-some r e)
-    go (some q) none x y e = absurd (none-ne-some r e)
-    go (some q) (some ss) x y e = said_row b r q ss (keys_of ss) x y refl e
+    go : (o : Option Row) (p : Option (List Stated)) → read_pair b.starts ≡ o → read_keys b.below ≡ p → row_from (entry_from o p) ≡ Some r → Said b r
+    go None p x y e = absurd (none-some r e)
+    go (Some q) None x y e = absurd (none-some r e)
+    go (Some q) (Some ss) x y e = said_row b r q ss (keys_of ss) x y refl e
 
 pub record AllSaid (b : Block) (bs : List Block) (rs : List Row) : Type 0 where
   pub row : Row
   pub rows : List Row
-  pub first_says : row_from (entry_of b) ≡ some row
-  pub rest_says : rows_of bs ≡ some rows
+  pub first_says : row_from (entry_of b) ≡ Some row
+  pub rest_says : rows_of bs ≡ Some rows
   pub is : row ∷ rows ≡ rs
 
-pub rows_say : (b : Block) (bs : List Block) (rs : List Row) → rows_of (b ∷ bs) ≡ some rs → AllSaid b bs rs
+pub rows_say : (b : Block) (bs : List Block) (rs : List Row) → rows_of (b ∷ bs) ≡ Some rs → AllSaid b bs rs
 unfolding rows_of
 rows_say b bs rs e =
-    let g = given_is (row_from (entry_of b)) (λ r. given (rows_of bs) λ rs. some (r ∷ rs)) rs e in
-    let h = given_is (rows_of bs) (λ rs. some (g.0 ∷ rs)) rs g.2 in
-    record { row = g.0; rows = h.0; first_says = g.1; rest_says = h.1; is = some-injective (g.0 ∷ h.0) rs h.2 }
+    let g = given_is (row_from (entry_of b)) (λ r. given (rows_of bs) λ rs. Some (r ∷ rs)) rs e in
+    let h = given_is (rows_of bs) (λ rs. Some (g.0 ∷ rs)) rs g.2 in
+    record { row = g.0; rows = h.0; first_says = g.1; rest_says = h.1; is = same_Some (g.0 ∷ h.0) rs h.2 }
 
-pub rows_are : (bs : List Block) (rs : List Row) → rows_of bs ≡ some rs → (bs ≡ map block_of rs) × (every are_octets (map (λ r. r.suffix) rs) ≡ true)
+pub rows_are : (bs : List Block) (rs : List Row) → rows_of bs ≡ Some rs → (bs ≡ map block_of rs) × (every are_octets (map (λ r. r.suffix) rs) ≡ true)
 unfolding rows_of
-rows_are [] rs e = let is = some-injective [] rs e in (ap (map block_of) is, ap (λ (rs : List Row). every are_octets (map (λ r. r.suffix) rs)) (sym is))
+rows_are [] rs e = let is = same_Some [] rs e in (ap (map block_of) is, ap (λ (rs : List Row). every are_octets (map (λ r. r.suffix) rs)) (sym is))
 rows_are (b ∷ bs) rs e =
     let a = rows_say b bs rs e in
     let s = block_says b a.row a.first_says in
@@ -259,27 +260,27 @@ rows_are (b ∷ bs) rs e =
 pub record Tabled (l : List ℕ) (ls : List (List ℕ)) (t : Table) : Type 0 where
   pub clocked : Clocked
   pub rows : List Row
-  pub clock_reads : read_clock l ≡ some clocked
+  pub clock_reads : read_clock l ≡ Some clocked
   pub none_loose : (blocks_of ls).loose ≡ []
-  pub rows_read : rows_of (blocks_of ls).blocks ≡ some rows
+  pub rows_read : rows_of (blocks_of ls).blocks ≡ Some rows
   pub is : record { clock = clocked.clock; floor = clocked.floor; rows = rows } ≡ t
 
-rows_below_lem : (ls : List (List ℕ)) (bs : List Block) (rs : List Row) → rows_below ls bs ≡ some rs → (ls ≡ []) × (rows_of bs ≡ some rs)
+rows_below_lem : (ls : List (List ℕ)) (bs : List Block) (rs : List Row) → rows_below ls bs ≡ Some rs → (ls ≡ []) × (rows_of bs ≡ Some rs)
 rows_below_lem [] bs rs e = (refl, e)
-rows_below_lem (l ∷ ls) bs rs e = absurd (none-ne-some rs e)
+rows_below_lem (l ∷ ls) bs rs e = absurd (none-some rs e)
 
-pub table_says : (l : List ℕ) (ls : List (List ℕ)) (t : Table) → table_said (l ∷ ls) ≡ some t → Tabled l ls t
+pub table_says : (l : List ℕ) (ls : List (List ℕ)) (t : Table) → table_said (l ∷ ls) ≡ Some t → Tabled l ls t
 unfolding table_said
 table_says l ls t e =
     let below = rows_below (blocks_of ls).loose (blocks_of ls).blocks in
-    let g = given_is (read_clock l) (λ c. given below λ rs. some (record { clock = c.clock; floor = c.floor; rows = rs })) t e in
-    let h = given_is below (λ rs. some (record { clock = g.0.clock; floor = g.0.floor; rows = rs })) t g.2 in
+    let g = given_is (read_clock l) (λ c. given below λ rs. Some (record { clock = c.clock; floor = c.floor; rows = rs })) t e in
+    let h = given_is below (λ rs. Some (record { clock = g.0.clock; floor = g.0.floor; rows = rs })) t g.2 in
     let r = rows_below_lem (blocks_of ls).loose (blocks_of ls).blocks h.0 h.1 in
-    record { clocked = g.0; rows = h.0; clock_reads = g.1; none_loose = r.0; rows_read = r.1; is = some-injective _ t h.2 }
+    record { clocked = g.0; rows = h.0; clock_reads = g.1; none_loose = r.0; rows_read = r.1; is = same_Some _ t h.2 }
 
-said_lines : (ls : List (List ℕ)) (t : Table) → table_said ls ≡ some t → (ls ≡ lines_of (listing t)) × (every are_octets (names_of t) ≡ true)
+said_lines : (ls : List (List ℕ)) (t : Table) → table_said ls ≡ Some t → (ls ≡ lines_of (listing t)) × (every are_octets (names_of t) ≡ true)
 unfolding table_said names_of
-said_lines [] t e = absurd (none-ne-some t e)
+said_lines [] t e = absurd (none-some t e)
 said_lines (l ∷ ls) t e =
     let a = table_says l ls t e in
     let c = a.clocked in
@@ -292,52 +293,52 @@ said_lines (l ∷ ls) t e =
 
 -- ── Where every block reads, every line does ────────────────────────────────────────────────────────────────────────
 
-pub row_says : (b : Block) (r : Row) → row_from (entry_of b) ≡ some r → entry_of b ≡ says r.suffix (some r.pair)
+pub row_says : (b : Block) (r : Row) → row_from (entry_of b) ≡ Some r → entry_of b ≡ says r.suffix (Some r.pair)
 row_says b r e = go (entry_of b) e
   where
-    go : (x : Entry) → row_from x ≡ some r → x ≡ says r.suffix (some r.pair)
-    go unread e = absurd (none-ne-some r e)
-    go (says s none) e = absurd (none-ne-some r e)
-    go (says s (some p)) e = ap (λ (r : Row). says r.suffix (some r.pair)) (some-injective (record { suffix = s; pair = p }) r e)
+    go : (x : Entry) → row_from x ≡ Some r → x ≡ says r.suffix (Some r.pair)
+    go unread e = absurd (none-some r e)
+    go (says s None) e = absurd (none-some r e)
+    go (says s (Some p)) e = ap (λ (r : Row). says r.suffix (Some r.pair)) (same_Some (record { suffix = s; pair = p }) r e)
 
 -- The lines of every block read.
 abbrev pub AllRead : List Block → Type 0
 AllRead [] = Unit {0}
 AllRead (b ∷ bs) = ((s : List ℕ) × (p : Option Pair) × (entry_of b ≡ says s p)) × AllRead bs
 
-rows_all_read : (bs : List Block) (rs : List Row) → rows_of bs ≡ some rs → AllRead bs
+rows_all_read : (bs : List Block) (rs : List Row) → rows_of bs ≡ Some rs → AllRead bs
 rows_all_read [] rs e = tt
-rows_all_read (b ∷ bs) rs e = let a = rows_say b bs rs e in ((a.row.suffix, some a.row.pair, row_says b a.row a.first_says), rows_all_read bs a.rows a.rest_says)
+rows_all_read (b ∷ bs) rs e = let a = rows_say b bs rs e in ((a.row.suffix, Some a.row.pair, row_says b a.row a.first_says), rows_all_read bs a.rows a.rest_says)
 
 entry_reads : (b : Block) (s : List ℕ) (p : Option Pair) → entry_of b ≡ says s p → (is_some (read_pair b.starts) ≡ true) × (is_some (read_keys b.below) ≡ true)
 unfolding entry_of
 entry_reads b s p e = go (read_pair b.starts) (read_keys b.below) e
   where
     go : (o : Option Row) (k : Option (List Stated)) → entry_from o k ≡ says s p → (is_some o ≡ true) × (is_some k ≡ true)
-    go none k e = let z : ◌≡◌ {A = ℕ} 0 1 = cc in absurd (omega arith)
-    go (some r) none e = let z : ◌≡◌ {A = ℕ} 0 1 = cc in absurd (omega arith)
-    go (some r) (some ks) e = (refl, refl)
+    go None k e = let z : ◌≡◌ {A = ℕ} 0 1 = cc in absurd (omega arith)
+    go (Some r) None e = let z : ◌≡◌ {A = ℕ} 0 1 = cc in absurd (omega arith)
+    go (Some r) (Some ks) e = (refl, refl)
 
 keys_there : (l : List ℕ) (ls : List (List ℕ)) → is_some (read_keys (l ∷ ls)) ≡ true → (is_some (read_key l) ≡ true) × (is_some (read_keys ls) ≡ true)
 unfolding read_keys
 keys_there l ls e = go (read_key l) (read_keys ls) e
   where
-    go : (o : Option Stated) (p : Option (List Stated)) → is_some (given o λ k. given p λ ks. some (k ∷ ks)) ≡ true → (is_some o ≡ true) × (is_some p ≡ true)
-    go none p e = absurd (false≢true e)
-    go (some k) none e = absurd (false≢true e)
-    go (some k) (some ks) e = (refl, refl)
+    go : (o : Option Stated) (p : Option (List Stated)) → is_some (given o λ k. given p λ ks. Some (k ∷ ks)) ≡ true → (is_some o ≡ true) × (is_some p ≡ true)
+    go None p e = absurd (false≢true e)
+    go (Some k) None e = absurd (false≢true e)
+    go (Some k) (Some ks) e = (refl, refl)
 
 -- A line that starts a pair, and those below it.
 starts_read :
     (top : Bool) (n : ℕ) (l : List ℕ) (ls : List (List ℕ))
     → AllRead (blocks_from false l (blocks_of ls)).blocks
-    → (is_some (read_keys (blocks_of ls).loose) ≡ true → AllRead (blocks_of ls).blocks → unread_from false (suc n) ls ≡ none)
-    → unread_or (reads_as false top l) n (unread_from false (suc n) ls) ≡ none
+    → (is_some (read_keys (blocks_of ls).loose) ≡ true → AllRead (blocks_of ls).blocks → unread_from false (suc n) ls ≡ None)
+    → unread_or (reads_as false top l) n (unread_from false (suc n) ls) ≡ None
 starts_read top n l ls f rec =
     let s = entry_reads (record { starts = l; below = (blocks_of ls).loose }) f.0.0 f.0.1 f.0.2 in
     rw s.0 (rec s.1 f.1)
 
-all_read : (n : ℕ) (ls : List (List ℕ)) → is_some (read_keys (blocks_of ls).loose) ≡ true → AllRead (blocks_of ls).blocks → unread_from false n ls ≡ none
+all_read : (n : ℕ) (ls : List (List ℕ)) → is_some (read_keys (blocks_of ls).loose) ≡ true → AllRead (blocks_of ls).blocks → unread_from false n ls ≡ None
 unfolding blocks_of unread_from
 all_read n [] e f = refl
 all_read n (l ∷ ls) e f = go (is_key_line l) e f (all_read (suc n) ls)
@@ -346,12 +347,12 @@ all_read n (l ∷ ls) e f = go (is_key_line l) e f (all_read (suc n) ls)
         (b : Bool)
         → is_some (read_keys (blocks_from b l (blocks_of ls)).loose) ≡ true
         → AllRead (blocks_from b l (blocks_of ls)).blocks
-        → (is_some (read_keys (blocks_of ls).loose) ≡ true → AllRead (blocks_of ls).blocks → unread_from false (suc n) ls ≡ none)
-        → unread_or (reads_as b false l) n (unread_from (false && b) (suc n) ls) ≡ none
+        → (is_some (read_keys (blocks_of ls).loose) ≡ true → AllRead (blocks_of ls).blocks → unread_from false (suc n) ls ≡ None)
+        → unread_or (reads_as b false l) n (unread_from (false && b) (suc n) ls) ≡ None
     go true e f rec = let g = keys_there l (blocks_of ls).loose e in rw g.0 (rec g.1 f)
     go false e f rec = starts_read false n l ls f rec
 
-pub below_read : (n : ℕ) (ls : List (List ℕ)) → (blocks_of ls).loose ≡ [] → AllRead (blocks_of ls).blocks → unread_from true n ls ≡ none
+pub below_read : (n : ℕ) (ls : List (List ℕ)) → (blocks_of ls).loose ≡ [] → AllRead (blocks_of ls).blocks → unread_from true n ls ≡ None
 unfolding blocks_of unread_from
 below_read n [] e f = refl
 below_read n (l ∷ ls) e f = go (is_key_line l) e f
@@ -360,13 +361,13 @@ below_read n (l ∷ ls) e f = go (is_key_line l) e f
         (b : Bool)
         → (blocks_from b l (blocks_of ls)).loose ≡ []
         → AllRead (blocks_from b l (blocks_of ls)).blocks
-        → unread_or (reads_as b true l) n (unread_from (true && b) (suc n) ls) ≡ none
+        → unread_or (reads_as b true l) n (unread_from (true && b) (suc n) ls) ≡ None
     go true e f = let z = ap (λ (x : List (List ℕ)). length x) e in absurd (omega arith)
     go false e f = starts_read true n l ls f (all_read (suc n) ls)
 
-pub said_reads : (ls : List (List ℕ)) (t : Table) → table_said ls ≡ some t → first_unread ls ≡ none
+pub said_reads : (ls : List (List ℕ)) (t : Table) → table_said ls ≡ Some t → first_unread ls ≡ None
 unfolding first_unread table_said
-said_reads [] t e = absurd (none-ne-some t e)
+said_reads [] t e = absurd (none-some t e)
 said_reads (l ∷ ls) t e =
     let a = table_says l ls t e in
     let c : is_some (read_clock l) ≡ true = ap is_some a.clock_reads in
@@ -376,27 +377,27 @@ said_reads (l ∷ ls) t e =
 
 -- What a text that loads has in it.
 pub record Loading (s : List ℕ) (t : Table) : Type 0 where
-  pub said : table_said (lines_of s) ≡ some t
+  pub said : table_said (lines_of s) ≡ Some t
   pub rules : table_rules t ≡ true
   pub octets : every are_octets (names_of t) ≡ true
   pub text : listing t ≡ s
 
 is_table : Loaded → Option Table
-is_table (no_line n) = none
-is_table no_table = none
-is_table (loaded t) = some t
+is_table (no_line n) = None
+is_table no_table = None
+is_table (loaded t) = Some t
 
 loaded_inj : (t u : Table) → loaded t ≡ loaded u → t ≡ u
 unfolding is_table
-loaded_inj t u e = some-injective t u (ap is_table e)
+loaded_inj t u e = same_Some t u (ap is_table e)
 
-loaded_by_lem : (t : Table) (n : Option ℕ) (o : Option Table) → loaded_by n o ≡ loaded t → (o ≡ some t) × (table_rules t ≡ true)
-loaded_by_lem t (some n) o e = let z : ◌≡◌ {A = ℕ} 0 1 = cc in absurd (omega arith)
-loaded_by_lem t none none e = let z : ◌≡◌ {A = ℕ} 0 1 = cc in absurd (omega arith)
-loaded_by_lem t none (some u) e = go (table_rules u) refl e
+loaded_by_lem : (t : Table) (n : Option ℕ) (o : Option Table) → loaded_by n o ≡ loaded t → (o ≡ Some t) × (table_rules t ≡ true)
+loaded_by_lem t (Some n) o e = let z : ◌≡◌ {A = ℕ} 0 1 = cc in absurd (omega arith)
+loaded_by_lem t None None e = let z : ◌≡◌ {A = ℕ} 0 1 = cc in absurd (omega arith)
+loaded_by_lem t None (Some u) e = go (table_rules u) refl e
   where
-    go : (b : Bool) → table_rules u ≡ b → cond b (loaded u) no_table ≡ loaded t → (◌≡◌ {A = Option Table} (some u) (some t)) × (table_rules t ≡ true)
-    go true r e = let is = loaded_inj u t e in (ap {B = Option Table} some is, ap table_rules (sym is) ∙ r)
+    go : (b : Bool) → table_rules u ≡ b → cond b (loaded u) no_table ≡ loaded t → (◌≡◌ {A = Option Table} (Some u) (Some t)) × (table_rules t ≡ true)
+    go true r e = let is = loaded_inj u t e in (ap {B = Option Table} Some is, ap table_rules (sym is) ∙ r)
     go false r e = let z : ◌≡◌ {A = ℕ} 0 1 = cc in absurd (omega arith)
 
 pub load_is : (s : List ℕ) (t : Table) → load s ≡ loaded t → Loading s t

@@ -2,7 +2,8 @@
 -- reasons. Assumes nothing.
 use mathlib.Core.Path.{◌≡◌, refl, sym, ap, ap₂, ◌∙◌, subst}
 use mathlib.Core.Bool.{Bool, true, false, cond, not, ◌&&◌, ◌||◌}
-use mathlib.Core.Option.{Option, none, some, some-injective, none-ne-some}
+use Rattle.std.specs.Prelude.{Option, None, Some}
+use Rattle.std.proofs.lemmas.Option.{same_Some, none-some}
 use mathlib.Core.List.{List, [], ◌∷◌, ◌++◌, append_assoc, append-nil, map, map-append}
 use Prim.Native.Nat.{ℕ, zero, suc, ◌+◌, ◌≤◌, ◌<◌}
 use native.Mathlib.Omega.{arith}
@@ -91,7 +92,7 @@ last_fits clock kept r o = record {
 -- ── What is judged of a block ───────────────────────────────────────────────────────────────────────────────────────
 
 abbrev Verdict : ℕ → List Row → Entry → Judged → Type 0
-Verdict clock kept e (keeps r) = Fits clock kept r × (e ≡ says r.suffix (some r.pair))
+Verdict clock kept e (keeps r) = Fits clock kept r × (e ≡ says r.suffix (Some r.pair))
 Verdict clock kept e (drops n) = is_reason n ≡ true
 
 reasons : (is_reason LINE ≡ true) × (is_reason TWIN ≡ true) × (is_reason FULL ≡ true) × (is_reason TABLE ≡ true)
@@ -108,14 +109,14 @@ verdict clock kept (says suffix p) =
     last p new (ltb-true (length kept) 64 room)
   where
     last : (p : Option Pair) → is_none (row_named (names kept) suffix) ≡ true → length kept < 64 → Verdict clock kept (says suffix p) (sound_row clock suffix p)
-    last none new room = reasons.3
-    last (some p) new room =
-        either (Verdict clock kept (says suffix (some p))) (suffix_ok suffix && pair_rule clock p)
+    last None new room = reasons.3
+    last (Some p) new room =
+        either (Verdict clock kept (says suffix (Some p))) (suffix_ok suffix && pair_rule clock p)
         (λ e. (record { new = new; room = room; good = left (suffix_ok suffix) (pair_rule clock p) e; sound = right (suffix_ok suffix) (pair_rule clock p) e }, refl))
         (λ e. reasons.3)
 
 -- And what fits is kept.
-fits_kept : (clock : ℕ) (kept : List Row) (r : Row) → Fits clock kept r → judged clock kept (says r.suffix (some r.pair)) ≡ keeps r
+fits_kept : (clock : ℕ) (kept : List Row) (r : Row) → Fits clock kept r → judged clock kept (says r.suffix (Some r.pair)) ≡ keeps r
 unfolding judged
 fits_kept clock kept r f = rw (f.new, lt-ltb (length kept) 64 f.room, f.good, f.sound) refl
 
@@ -142,7 +143,7 @@ dropping_good clock reason n k rest e g = record {
 }
 
 -- A block whose row is kept says it.
-says_row : (b : Block) (r : Row) → entry_of b ≡ says r.suffix (some r.pair) → row_from (entry_of b) ≡ some r
+says_row : (b : Block) (r : Row) → entry_of b ≡ says r.suffix (Some r.pair) → row_from (entry_of b) ≡ Some r
 says_row b r e = rw e refl
 
 kept_good : (clock : ℕ) (kept : List Row) (n : ℕ) (bs : List Block) → RowsOk clock kept → every are_octets (names kept) ≡ true → Good clock (kept_from clock kept n bs)
@@ -166,10 +167,10 @@ kept_good clock kept n (b ∷ bs) o x =
     go (drops reason) v rec = dropping_good clock reason n (size_of b) (kept_from clock kept (n + size_of b) bs) v (rec kept o x)
 
 -- Blocks whose rows keep the rules with those kept before are all kept.
-all_kept : (clock : ℕ) (kept : List Row) (n : ℕ) (bs : List Block) (rs : List Row) → rows_of bs ≡ some rs → RowsOk clock (kept ++ rs) → kept_from clock kept n bs ≡ record { rows = kept ++ rs; dropped = [] }
+all_kept : (clock : ℕ) (kept : List Row) (n : ℕ) (bs : List Block) (rs : List Row) → rows_of bs ≡ Some rs → RowsOk clock (kept ++ rs) → kept_from clock kept n bs ≡ record { rows = kept ++ rs; dropped = [] }
 unfolding kept_from rows_of
 all_kept clock kept n [] rs e o =
-    let is : [] ≡ rs = some-injective [] rs e in
+    let is : [] ≡ rs = same_Some [] rs e in
     ap (λ (l : List Row). record { rows = l; dropped = [] }) (sym (append-nil kept) ∙ ap (λ (l : List Row). kept ++ l) is)
 all_kept clock kept n (b ∷ bs) rs e o =
     let a = rows_say b bs rs e in
@@ -214,8 +215,8 @@ SoundBy (mended t ds) = Sound t ds
 
 mended_by_lem : (o : Option Clocked) (b : Blocks) → SoundBy (mended_by o b)
 unfolding names_of
-mended_by_lem none b = tt
-mended_by_lem (some c) b =
+mended_by_lem None b = tt
+mended_by_lem (Some c) b =
     either SoundBy (clocked_rule c)
     (λ e.
     let k = length b.loose in
@@ -233,9 +234,9 @@ unfolding mend
 mend_sound s t ds e = subst SoundBy e (lines_sound (lines_of s))
 
 -- A listing that loads is kept whole.
-lines_whole : (ls : List (List ℕ)) (t : Table) → table_said ls ≡ some t → table_rules t ≡ true → mend_lines ls ≡ mended t []
+lines_whole : (ls : List (List ℕ)) (t : Table) → table_said ls ≡ Some t → table_rules t ≡ true → mend_lines ls ≡ mended t []
 unfolding mend_lines table_said dropped_from
-lines_whole [] t e r = absurd (none-ne-some t e)
+lines_whole [] t e r = absurd (none-some t e)
 lines_whole (l ∷ ls) t e r =
     let a = table_says l ls t e in
     let c = a.clocked in
@@ -252,13 +253,13 @@ mend_whole s t e = let l = load_is s t e in lines_whole (lines_of s) t l.said l.
 abbrev pub table_with : Clocked → List Row → Table
 table_with c rs = record { clock = c.clock; floor = c.floor; rows = rs }
 
-pub kept_rules : (c : Clocked) (kept : List Row) (e : Entry) (r : Row) → table_rules (table_with c kept) ≡ true → judged c.clock kept e ≡ keeps r → (e ≡ says r.suffix (some r.pair)) × (table_rules (table_with c (kept ++ (r ∷ []))) ≡ true)
+pub kept_rules : (c : Clocked) (kept : List Row) (e : Entry) (r : Row) → table_rules (table_with c kept) ≡ true → judged c.clock kept e ≡ keeps r → (e ≡ says r.suffix (Some r.pair)) × (table_rules (table_with c (kept ++ (r ∷ []))) ≡ true)
 kept_rules c kept e r t j =
     let o = table_clocked (table_with c kept) t in
     let v : Verdict c.clock kept e (keeps r) = subst (Verdict c.clock kept e) j (verdict c.clock kept e) in
     (v.1, clocked_table c (kept ++ (r ∷ [])) o.1 (kept_ok c.clock kept r o.0 v.0))
 
-pub rules_kept : (c : Clocked) (kept : List Row) (r : Row) → table_rules (table_with c (kept ++ (r ∷ []))) ≡ true → judged c.clock kept (says r.suffix (some r.pair)) ≡ keeps r
+pub rules_kept : (c : Clocked) (kept : List Row) (r : Row) → table_rules (table_with c (kept ++ (r ∷ []))) ≡ true → judged c.clock kept (says r.suffix (Some r.pair)) ≡ keeps r
 rules_kept c kept r t = fits_kept c.clock kept r (last_fits c.clock kept r (table_clocked (table_with c (kept ++ (r ∷ []))) t).0)
 
 -- ── The lines that are left ─────────────────────────────────────────────────────────────────────────────────────────
@@ -395,8 +396,8 @@ LeftBy ls (mended t ds) = lines_left ds 1 ls ≡ lines_of (listing t)
 
 lines_left_lem : (l : List ℕ) (ls : List (List ℕ)) (o : Option Clocked) → read_clock l ≡ o → LeftBy (l ∷ ls) (mended_by o (blocks_of ls))
 unfolding lines_left
-lines_left_lem l ls none e = tt
-lines_left_lem l ls (some c) e =
+lines_left_lem l ls None e = tt
+lines_left_lem l ls (Some c) e =
     either (LeftBy (l ∷ ls)) (clocked_rule c)
     (λ r.
     let b = blocks_of ls in
@@ -496,8 +497,8 @@ RisingIn no_room = Unit {0}
 RisingIn (mended t ds) = Rising 2 ds
 
 lines_rising : (o : Option Clocked) (b : Blocks) → RisingIn (mended_by o b)
-lines_rising none b = tt
-lines_rising (some c) b = either RisingIn (clocked_rule c) (λ r. rising_dropped LINE 2 (length b.loose) _ (rising_kept c.clock [] (2 + length b.loose) b.blocks)) (λ r. tt)
+lines_rising None b = tt
+lines_rising (Some c) b = either RisingIn (clocked_rule c) (λ r. rising_dropped LINE 2 (length b.loose) _ (rising_kept c.clock [] (2 + length b.loose) b.blocks)) (λ r. tt)
 
 mend_rises : (ls : List (List ℕ)) → RisingIn (mend_lines ls)
 unfolding mend_lines
@@ -509,7 +510,7 @@ unfolding mend
 mend_rising s t ds e = subst RisingIn e (mend_rises (lines_of s))
 
 -- Mending is done exactly where the clock line reads and keeps its rules; and LINE and TABLE say why it is not.
-pub mend_read : (s l : List ℕ) (ls : List (List ℕ)) (c : Clocked) → lines_of s ≡ l ∷ ls → read_clock l ≡ some c → clocked_rule c ≡ true → (t : Table) × (ds : List Dropped) × (mend s ≡ mended t ds) × (t.clock ≡ c.clock) × (t.floor ≡ c.floor)
+pub mend_read : (s l : List ℕ) (ls : List (List ℕ)) (c : Clocked) → lines_of s ≡ l ∷ ls → read_clock l ≡ Some c → clocked_rule c ≡ true → (t : Table) × (ds : List Dropped) × (mend s ≡ mended t ds) × (t.clock ≡ c.clock) × (t.floor ≡ c.floor)
 unfolding mend mend_lines
 mend_read s l ls c e f r =
     let b = blocks_of ls in

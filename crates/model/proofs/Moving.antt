@@ -2,7 +2,8 @@
 use Prim.Native.Nat.{ℕ, ◌≤◌, ◌<◌, max}
 use mathlib.Core.Path.{◌≡◌, refl, sym, ap, ◌∙◌}
 use mathlib.Core.Bool.{Bool, true, false, cond, ◌||◌}
-use mathlib.Core.Option.{some, none-ne-some}
+use Rattle.std.specs.Prelude.{Some}
+use Rattle.std.proofs.lemmas.Option.{none-some}
 use native.Mathlib.Omega.{arith}
 use native.Mathlib.Nat.{zero-max, max-zero}
 use lib.Dec.{eqb}
@@ -167,16 +168,16 @@ module _ (now : ℕ) where
     renewed_adopted (Adopted a) = refl
     renewed_adopted (Renewing a w) = refl
 
-    renewed_waiting : (ks : Keys) (k : Key) → adopted_of ks ≡ some k → waiting_serial (renewed_keys ks now new) ≡ new.serial
+    renewed_waiting : (ks : Keys) (k : Key) → adopted_of ks ≡ Some k → waiting_serial (renewed_keys ks now new) ≡ new.serial
     unfolding waiting_serial renewed_keys
-    renewed_waiting Empty k e = absurd (none-ne-some k e)
+    renewed_waiting Empty k e = absurd (none-some k e)
     renewed_waiting (Adopted a) k e = refl
     renewed_waiting (Renewing a w) k e = refl
 
-adopted_adopted : (ks : Keys) (k : Key) → waiting_of ks ≡ some k → adopted_serial (adopted_keys ks) ≡ waiting_serial ks
+adopted_adopted : (ks : Keys) (k : Key) → waiting_of ks ≡ Some k → adopted_serial (adopted_keys ks) ≡ waiting_serial ks
 unfolding adopted_serial waiting_serial adopted_keys
-adopted_adopted Empty k e = absurd (none-ne-some k e)
-adopted_adopted (Adopted a) k e = absurd (none-ne-some k e)
+adopted_adopted Empty k e = absurd (none-some k e)
+adopted_adopted (Adopted a) k e = absurd (none-some k e)
 adopted_adopted (Renewing a w) k e = refl
 
 adopted_waiting : (ks : Keys) → waiting_serial (adopted_keys ks) ≡ 0
@@ -231,12 +232,12 @@ module _ (c : ℕ) (p : Pair) (rule : pair_rule c p ≡ true) where
   moves_issued now g = fresh keys (Adopted (made p now g)) ok refl refl
 
   -- A RENEWAL, of a pair with an adopted key: the new key is made, and what waited goes.
-  pub moves_renewed : (now : ℕ) (g : Algorithm) (k : Key) → adopted_of keys ≡ some k → moves_of keys (renewed p now g).keys ≡ moved next 0 0 (waiting_serial keys)
+  pub moves_renewed : (now : ℕ) (g : Algorithm) (k : Key) → adopted_of keys ≡ Some k → moves_of keys (renewed p now g).keys ≡ moved next 0 0 (waiting_serial keys)
   unfolding renewed with_keys made
   moves_renewed now g k e = replace keys _ ok (renewed_adopted now (made p now g) keys) (renewed_waiting now (made p now g) keys k e)
 
   -- AN ADOPTION, of a pair with a waiting key: it is adopted, and the old one ends.
-  pub moves_adopted : (k : Key) → waiting_of keys ≡ some k → moves_of keys (adopted p).keys ≡ moved 0 (waiting_serial keys) (adopted_serial keys) 0
+  pub moves_adopted : (k : Key) → waiting_of keys ≡ Some k → moves_of keys (adopted p).keys ≡ moved 0 (waiting_serial keys) (adopted_serial keys) 0
   unfolding adopted with_keys
   moves_adopted k e = adopt keys _ ok (adopted_waiting keys) (adopted_adopted keys k e)
 

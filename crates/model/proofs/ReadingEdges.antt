@@ -2,12 +2,11 @@
 use Prim.Native.Nat.{ℕ}
 use mathlib.Core.Path.{◌≡◌, refl}
 use mathlib.Core.Bool.{true, false}
-use mathlib.Core.Option.{Option, none, some}
+use Rattle.std.specs.Prelude.{Option, None, Some}
 use mathlib.Core.List.{List, [], ◌∷◌, ◌++◌}
 use lib.ListN.{replicate}
 use lib.IntN.{pos}
 use Rattle.model.specs.declared.Algorithm.TheVariants.{Sha256, Sha384, Sha512}
-use Rattle.model.specs.declared.Named.TheVariants.{Known, Unknown}
 use Rattle.model.specs.declared.Scheme.TheVariants.{DiffieHellman, ServerAssignment, ResolverAssignment}
 use Rattle.model.specs.declared.Mode.TheVariants.{Deletion, Renewal, Adoption, Reserved, Unsupported}
 use Rattle.model.specs.declared.Keys.TheVariants.{Adopted}
@@ -80,11 +79,11 @@ abbrev hmac : List ℕ → List ℕ
 hmac digits = 11 ∷ 104 ∷ 109 ∷ 97 ∷ 99 ∷ 45 ∷ 115 ∷ 104 ∷ 97 ∷ (digits ++ (0 ∷ []))
 
 pub algorithms :
-    (algorithm_named (hmac (50 ∷ 53 ∷ 54 ∷ [])) ≡ Known Sha256)
-    × (algorithm_named (hmac (51 ∷ 56 ∷ 52 ∷ [])) ≡ Known Sha384)
-    × (algorithm_named (hmac (53 ∷ 49 ∷ 50 ∷ [])) ≡ Known Sha512)
-    × (algorithm_named (hmac (53 ∷ 49 ∷ 51 ∷ [])) ≡ Unknown)
-    × (algorithm_named (0 ∷ []) ≡ Unknown)
+    (algorithm_named (hmac (50 ∷ 53 ∷ 54 ∷ [])) ≡ Some Sha256)
+    × (algorithm_named (hmac (51 ∷ 56 ∷ 52 ∷ [])) ≡ Some Sha384)
+    × (algorithm_named (hmac (53 ∷ 49 ∷ 50 ∷ [])) ≡ Some Sha512)
+    × (algorithm_named (hmac (53 ∷ 49 ∷ 51 ∷ [])) ≡ None)
+    × (algorithm_named (0 ∷ []) ≡ None)
 unfolding after
 algorithms = (refl, refl, refl, refl, refl)
 
@@ -140,11 +139,11 @@ pointed = (refl, refl)
 -- ── TSIGs ───────────────────────────────────────────────────────────────────────────────────────────────────────────
 
 abbrev signing : Reading Message → Option Signature
-signing (stops place) = none
-signing (reads m next) = some (signature m.records)
+signing (stops place) = None
+signing (reads m next) = Some (signature m.records)
 
 abbrev is_misplaced : List ℕ → Type 0
-is_misplaced octets = signing (read_message octets) ≡ some misplaced
+is_misplaced octets = signing (read_message octets) ≡ Some misplaced
 
 -- "TSIG (type 250): algorithm, time signed 48 bits, fudge 16, MAC size 16, MAC, original ID 16, error 16, other length 16, other data."
 pub tsig_fields :
@@ -157,7 +156,7 @@ pub tsig_fields :
       ttl = 0;
       content = 1 ∷ 97 ∷ 0 ∷ 1 ∷ 2 ∷ 3 ∷ 4 ∷ 5 ∷ 6 ∷ 7 ∷ 8 ∷ 0 ∷ 2 ∷ 9 ∷ 10 ∷ 11 ∷ 12 ∷ 13 ∷ 14 ∷ 0 ∷ 1 ∷ 15 ∷ [];
     }
-    ≡ some
+    ≡ Some
     record {
       name = 1 ∷ 98 ∷ 0 ∷ [];
       algorithm = 1 ∷ 97 ∷ 0 ∷ [];
@@ -199,7 +198,7 @@ tkey_in content = tkey_of record { section = 3; owner = 1 ∷ 98 ∷ 0 ∷ []; t
 pub tkey_fields_lem :
     (tkey_in
     (1 ∷ 97 ∷ 0 ∷ 1 ∷ 2 ∷ 3 ∷ 4 ∷ 5 ∷ 6 ∷ 7 ∷ 8 ∷ 16 ∷ 4 ∷ 9 ∷ 10 ∷ 0 ∷ 2 ∷ 11 ∷ 12 ∷ 0 ∷ 6 ∷ 1 ∷ 99 ∷ 0 ∷ 1 ∷ 100 ∷ 0 ∷ [])
-    ≡ some
+    ≡ Some
     record {
       name = 1 ∷ 98 ∷ 0 ∷ [];
       algorithm = 1 ∷ 97 ∷ 0 ∷ [];
@@ -212,7 +211,7 @@ pub tkey_fields_lem :
       old_algorithm = 1 ∷ 100 ∷ 0 ∷ [];
     })
     × (tkey_in (0 ∷ 0 ∷ 0 ∷ 0 ∷ 1 ∷ 0 ∷ 0 ∷ 0 ∷ 2 ∷ 0 ∷ 5 ∷ 0 ∷ 0 ∷ 0 ∷ 0 ∷ 0 ∷ 1 ∷ 64 ∷ [])
-    ≡ some
+    ≡ Some
     record {
       name = 1 ∷ 98 ∷ 0 ∷ [];
       algorithm = 0 ∷ [];
@@ -247,14 +246,14 @@ modes = (refl, refl, refl, refl, refl, refl, refl, refl, refl, refl, refl)
 -- "Both fill RDLENGTH exactly": an octet too many; other size too large; data that ends before other size, and in the fixed fields. "A bad or compressed name
 -- in its data": 64 as first octet, with the other fields behind it and as the first of them, a name that is cut, a pointer to a 0 within the data.
 pub ill_formed_tkeys :
-    (tkey_in (tkey_data (algorithm_name Sha256) 1 2 5 0 [] [] ++ (0 ∷ [])) ≡ none)
-    × (tkey_in (0 ∷ 0 ∷ 0 ∷ 0 ∷ 1 ∷ 0 ∷ 0 ∷ 0 ∷ 2 ∷ 0 ∷ 5 ∷ 0 ∷ 0 ∷ 0 ∷ 0 ∷ 0 ∷ 1 ∷ []) ≡ none)
-    × (tkey_in (0 ∷ 0 ∷ 0 ∷ 0 ∷ 1 ∷ 0 ∷ 0 ∷ 0 ∷ 2 ∷ 0 ∷ 5 ∷ 0 ∷ 0 ∷ 0 ∷ 0 ∷ []) ≡ none)
-    × (tkey_in (0 ∷ 0 ∷ 0 ∷ 0 ∷ 1 ∷ 0 ∷ 0 ∷ 0 ∷ 2 ∷ 0 ∷ 5 ∷ 0 ∷ 0 ∷ []) ≡ none)
-    × (tkey_in (tkey_data (64 ∷ []) 1 2 5 0 [] []) ≡ none)
-    × (tkey_in (tkey_data [] 0x4000_0000 2 5 0 [] []) ≡ none)
-    × (tkey_in (11 ∷ 104 ∷ []) ≡ none)
-    × (tkey_in (tkey_data (192 ∷ 12 ∷ []) 1 2 5 0 [] []) ≡ none)
+    (tkey_in (tkey_data (algorithm_name Sha256) 1 2 5 0 [] [] ++ (0 ∷ [])) ≡ None)
+    × (tkey_in (0 ∷ 0 ∷ 0 ∷ 0 ∷ 1 ∷ 0 ∷ 0 ∷ 0 ∷ 2 ∷ 0 ∷ 5 ∷ 0 ∷ 0 ∷ 0 ∷ 0 ∷ 0 ∷ 1 ∷ []) ≡ None)
+    × (tkey_in (0 ∷ 0 ∷ 0 ∷ 0 ∷ 1 ∷ 0 ∷ 0 ∷ 0 ∷ 2 ∷ 0 ∷ 5 ∷ 0 ∷ 0 ∷ 0 ∷ 0 ∷ []) ≡ None)
+    × (tkey_in (0 ∷ 0 ∷ 0 ∷ 0 ∷ 1 ∷ 0 ∷ 0 ∷ 0 ∷ 2 ∷ 0 ∷ 5 ∷ 0 ∷ 0 ∷ []) ≡ None)
+    × (tkey_in (tkey_data (64 ∷ []) 1 2 5 0 [] []) ≡ None)
+    × (tkey_in (tkey_data [] 0x4000_0000 2 5 0 [] []) ≡ None)
+    × (tkey_in (11 ∷ 104 ∷ []) ≡ None)
+    × (tkey_in (tkey_data (192 ∷ 12 ∷ []) 1 2 5 0 [] []) ≡ None)
 unfolding after
 ill_formed_tkeys = (refl, refl, refl, refl, refl, refl, refl, refl)
 
@@ -262,7 +261,7 @@ ill_formed_tkeys = (refl, refl, refl, refl, refl, refl, refl, refl)
 -- that ends OldAlgorithm; OldAlgorithm bad, and a pointer to the 0 that ends OldName.
 abbrev Neither : List ℕ → Type 0
 Neither other =
-    (tkey_in (tkey_data (algorithm_name Sha256) 1 2 4098 0 [] other) ≡ none) × (tkey_in (tkey_data (algorithm_name Sha256) 1 2 4100 0 [] other) ≡ none)
+    (tkey_in (tkey_data (algorithm_name Sha256) 1 2 4098 0 [] other) ≡ None) × (tkey_in (tkey_data (algorithm_name Sha256) 1 2 4100 0 [] other) ≡ None)
 
 pub ill_formed_old_keys :
     Neither []

@@ -5,13 +5,13 @@ use mathlib.Core.Path.{◌≡◌, refl}
 use mathlib.Core.Bool.{Bool, true, false}
 use mathlib.Core.List.{List, [], ◌∷◌, ◌++◌}
 use lib.ListN.{replicate}
+use Rattle.std.specs.Prelude.{Option, Some, None}
 use Rattle.model.specs.declared.Algorithm.{Algorithm}
 use Rattle.model.specs.declared.Algorithm.TheVariants.{Sha256, Sha384}
 use Rattle.model.specs.declared.ResolverKey.{ResolverKey}
 use Rattle.model.specs.declared.Holding.{Holding}
 use Rattle.model.specs.declared.Asking.{Asking}
 use Rattle.model.specs.declared.Asking.TheVariants.{Ordinary, Renewal, Adoption, Deletion}
-use Rattle.model.specs.declared.OpenRequest.{OpenRequest}
 use Rattle.model.specs.declared.Resolver.{Resolver}
 use Rattle.model.specs.declared.SignWith.{SignWith}
 use Rattle.model.specs.declared.SignWith.TheVariants.{Nobody, AdoptedKey, OfferedKey}
@@ -21,6 +21,7 @@ use Rattle.model.specs.Replies.{record_octets, tkey_data}
 use Rattle.model.specs.Resolver.{LOST, WRONGID, UNSIGNED, FORMAT, ROOM, NOKEY, name_of, usable, adopted_key, offered_key, opened, noted, closed, Writing, unwritten, sent, request_octets, old_key, renewal_octets, adoption_octets, deletion_octets, written_renewal, written_adoption, written_deletion, written_into, answer_other, answer_key, answer_times, answer_of, answers, only_answer, keyless, unheard, rcode_of, accepted, heard, read_reply}
 use Rattle.model.proofs.Requests.{suffix, header_of, question, stamp_for, key_record}
 use Rattle.model.proofs.Running.{after}
+use Rattle.model.specs.declared.OpenRequest.{OpenRequest}
 
 -- Every definition of the resolver's half opened.
 unfoldable pub open_all : Resolver → Resolver
@@ -41,14 +42,14 @@ abbrev pub second : ResolverKey
 second = key_of 2 Sha256 1200 1800
 
 -- Keys 1 and 2, this request open, and whether the offered key signs next; with what is asked open under ID 4660, and with that closed.
-abbrev pub state : Holding → OpenRequest → Bool → Resolver
+abbrev pub state : Holding → Option OpenRequest → Bool → Resolver
 state holding awaited signs = record { holding = holding; adopted = first; offered = second; awaited = awaited; offered_signs = signs }
 
 abbrev pub awaiting : Asking → Resolver
-awaiting asking = state Holding.AdoptedAndOffered (OpenRequest.Sent 4660 asking) true
+awaiting asking = state Holding.AdoptedAndOffered (Some (record { id = 4660; asking = asking })) true
 
 abbrev pub settled : Resolver
-settled = state Holding.AdoptedAndOffered OpenRequest.Nothing true
+settled = state Holding.AdoptedAndOffered None true
 
 -- A reply of ID 4660 with these flags, so many answers and additional records, these, and a TSIG of key 1 with this error.
 abbrev pub reply : ℕ → ℕ → ℕ → List ℕ → ℕ → List ℕ
@@ -70,10 +71,10 @@ abbrev left : Resolver → ℕ → Heard
 left s n = record { number = n; due = false; state = s }
 
 abbrev pub lost : Resolver
-lost = state Holding.AdoptedAndOffered OpenRequest.Nothing true
+lost = state Holding.AdoptedAndOffered None true
 
 abbrev pub other_id : Resolver
-other_id = state Holding.AdoptedAndOffered (OpenRequest.Sent 4661 Renewal) true
+other_id = state Holding.AdoptedAndOffered (Some (record { id = 4661; asking = Renewal })) true
 
 -- A reply with no TSIG.
 abbrev pub bare : List ℕ
@@ -128,11 +129,11 @@ due = (refl, refl, refl, refl, refl, refl)
 -- A granted renewal: the offered key, whose first adoption the old key signs; also where there was none. Other flags beside the RCODE are free.
 abbrev offered : Algorithm → Resolver
 offered g =
-    record { holding = Holding.AdoptedAndOffered; adopted = first; offered = key_of 3 g 1300 1900; awaited = OpenRequest.Nothing; offered_signs = false }
+    record { holding = Holding.AdoptedAndOffered; adopted = first; offered = key_of 3 g 1300 1900; awaited = None; offered_signs = false }
 
 pub renewed :
     (read_reply (awaiting Renewal) true (good 4098) ≡ heard_as false (offered Sha256))
-    × (read_reply (state Holding.Adopted (OpenRequest.Sent 4660 Renewal) true) true (reply 0x80f0 1 0 (tkey 4098 0 (algorithm_name Sha384) []) 0)
+    × (read_reply (state Holding.Adopted (Some (record { id = 4660; asking = Renewal })) true) true (reply 0x80f0 1 0 (tkey 4098 0 (algorithm_name Sha384) []) 0)
     ≡ heard_as false (offered Sha384))
 unfolding open_all
 renewed = (refl, refl)
@@ -140,11 +141,11 @@ renewed = (refl, refl)
 -- An adoption: the offered key, and the old one is gone. A deletion: no key.
 pub adopted :
     read_reply (awaiting Adoption) true (good 4100)
-    ≡ heard_as false record { holding = Holding.Adopted; adopted = second; offered = second; awaited = OpenRequest.Nothing; offered_signs = true }
+    ≡ heard_as false record { holding = Holding.Adopted; adopted = second; offered = second; awaited = None; offered_signs = true }
 unfolding open_all
 adopted = refl
 
-pub deleted : read_reply (awaiting Deletion) true (good 5) ≡ heard_as false (state Holding.Nothing OpenRequest.Nothing true)
+pub deleted : read_reply (awaiting Deletion) true (good 5) ≡ heard_as false (state Holding.Nothing None true)
 unfolding open_all
 deleted = refl
 
@@ -184,7 +185,7 @@ written octets length signer s = record { result = record { number = 0; length =
 
 -- Each below has an ordinary message open. "A new request replaces the open one."
 abbrev pub before : Resolver
-before = state Holding.AdoptedAndOffered (OpenRequest.Sent 1 Ordinary) true
+before = state Holding.AdoptedAndOffered (Some (record { id = 1; asking = Ordinary })) true
 
 -- A renewal for the root's name, hmac-sha384, 1200 to 1800, with the KEY record lent; it is signed with the adopted key and takes no turn.
 pub renewal_written :
@@ -195,7 +196,7 @@ pub renewal_written :
     ∷ 11 ∷ 104 ∷ 109 ∷ 97 ∷ 99 ∷ 45 ∷ 115 ∷ 104 ∷ 97 ∷ 51 ∷ 56 ∷ 52 ∷ 0 ∷ 0 ∷ 0 ∷ 4 ∷ 176 ∷ 0 ∷ 0 ∷ 7 ∷ 8 ∷ 16 ∷ 2 ∷ 0 ∷ 0 ∷ 0 ∷ 0
     ∷ 0 ∷ 26 ∷ 1 ∷ 49 ∷ 1 ∷ 97 ∷ 7 ∷ 101 ∷ 120 ∷ 97 ∷ 109 ∷ 112 ∷ 108 ∷ 101 ∷ 0 ∷ 11 ∷ 104 ∷ 109 ∷ 97 ∷ 99 ∷ 45 ∷ 115 ∷ 104 ∷ 97 ∷ 50 ∷ 53 ∷ 54 ∷ 0
     ∷ 0 ∷ 0 ∷ 25 ∷ 0 ∷ 255 ∷ 0 ∷ 0 ∷ 0 ∷ 0 ∷ 0 ∷ 4 ∷ 2 ∷ 0 ∷ 3 ∷ 1 ∷ [])
-    98 AdoptedKey (state Holding.AdoptedAndOffered (OpenRequest.Sent 4660 Renewal) true)
+    98 AdoptedKey (state Holding.AdoptedAndOffered (Some (record { id = 4660; asking = Renewal })) true)
 unfolding open_all
 renewal_written = refl
 
@@ -207,7 +208,7 @@ pub adoption_written :
     ∷ 1 ∷ 50 ∷ 1 ∷ 97 ∷ 7 ∷ 101 ∷ 120 ∷ 97 ∷ 109 ∷ 112 ∷ 108 ∷ 101 ∷ 0 ∷ 0 ∷ 249 ∷ 0 ∷ 255 ∷ 0 ∷ 0 ∷ 0 ∷ 0 ∷ 0 ∷ 55
     ∷ 11 ∷ 104 ∷ 109 ∷ 97 ∷ 99 ∷ 45 ∷ 115 ∷ 104 ∷ 97 ∷ 50 ∷ 53 ∷ 54 ∷ 0 ∷ 0 ∷ 0 ∷ 4 ∷ 176 ∷ 0 ∷ 0 ∷ 7 ∷ 8 ∷ 16 ∷ 4 ∷ 0 ∷ 0 ∷ 0 ∷ 0
     ∷ 0 ∷ 26 ∷ 1 ∷ 49 ∷ 1 ∷ 97 ∷ 7 ∷ 101 ∷ 120 ∷ 97 ∷ 109 ∷ 112 ∷ 108 ∷ 101 ∷ 0 ∷ 11 ∷ 104 ∷ 109 ∷ 97 ∷ 99 ∷ 45 ∷ 115 ∷ 104 ∷ 97 ∷ 50 ∷ 53 ∷ 54 ∷ 0 ∷ [])
-    107 OfferedKey (state Holding.AdoptedAndOffered (OpenRequest.Sent 4660 Adoption) false)
+    107 OfferedKey (state Holding.AdoptedAndOffered (Some (record { id = 4660; asking = Adoption })) false)
 unfolding open_all
 adoption_written = refl
 
@@ -218,12 +219,12 @@ pub deletion_written :
     (18 ∷ 52 ∷ 0 ∷ 0 ∷ 0 ∷ 1 ∷ 0 ∷ 0 ∷ 0 ∷ 0 ∷ 0 ∷ 1 ∷ 1 ∷ 49 ∷ 1 ∷ 97 ∷ 7 ∷ 101 ∷ 120 ∷ 97 ∷ 109 ∷ 112 ∷ 108 ∷ 101 ∷ 0 ∷ 0 ∷ 249 ∷ 0 ∷ 255
     ∷ 1 ∷ 49 ∷ 1 ∷ 97 ∷ 7 ∷ 101 ∷ 120 ∷ 97 ∷ 109 ∷ 112 ∷ 108 ∷ 101 ∷ 0 ∷ 0 ∷ 249 ∷ 0 ∷ 255 ∷ 0 ∷ 0 ∷ 0 ∷ 0 ∷ 0 ∷ 29
     ∷ 11 ∷ 104 ∷ 109 ∷ 97 ∷ 99 ∷ 45 ∷ 115 ∷ 104 ∷ 97 ∷ 50 ∷ 53 ∷ 54 ∷ 0 ∷ 0 ∷ 0 ∷ 0 ∷ 0 ∷ 0 ∷ 0 ∷ 0 ∷ 0 ∷ 0 ∷ 5 ∷ 0 ∷ 0 ∷ 0 ∷ 0 ∷ 0 ∷ 0 ∷ [])
-    81 AdoptedKey (state Holding.AdoptedAndOffered (OpenRequest.Sent 4660 Deletion) true)
+    81 AdoptedKey (state Holding.AdoptedAndOffered (Some (record { id = 4660; asking = Deletion })) true)
 unfolding open_all
 deletion_written = refl
 
 -- "An ordinary message's ID may be noted as an open request."
-pub noted_id : noted (awaiting Adoption) 77 ≡ state Holding.AdoptedAndOffered (OpenRequest.Sent 77 Ordinary) true
+pub noted_id : noted (awaiting Adoption) 77 ≡ state Holding.AdoptedAndOffered (Some (record { id = 77; asking = Ordinary })) true
 unfolding open_all
 noted_id = refl
 
@@ -235,7 +236,7 @@ abbrev signer : Resolver → SignWith
 signer s = (written_adoption s 4660 512).result.signer
 
 abbrev fresh : Resolver
-fresh = state Holding.AdoptedAndOffered OpenRequest.Nothing false
+fresh = state Holding.AdoptedAndOffered None false
 
 pub turns :
     (signer fresh ≡ AdoptedKey)
@@ -257,20 +258,20 @@ abbrev nothing : Resolver → ℕ → Writing
 nothing s n = record { result = record { number = n; length = 0; signer = Nobody; state = s }; octets = [] }
 
 abbrev empty : Resolver
-empty = state Holding.Nothing (OpenRequest.Sent 1 Ordinary) true
+empty = state Holding.Nothing (Some (record { id = 1; asking = Ordinary })) true
 
 abbrev single : Resolver
-single = state Holding.Adopted (OpenRequest.Sent 1 Ordinary) true
+single = state Holding.Adopted (Some (record { id = 1; asking = Ordinary })) true
 
 -- A state whose adopted, or offered, key has a name that is cut.
 abbrev cut_key : ResolverKey
 cut_key = record { name = key_name 1 suffix ++ replicate 242 0; length = 12; algorithm = Sha256; inception = 1000; expiration = 1600 }
 
 abbrev cut_adopted : Resolver
-cut_adopted = record { holding = Holding.AdoptedAndOffered; adopted = cut_key; offered = second; awaited = OpenRequest.Sent 1 Ordinary; offered_signs = true }
+cut_adopted = record { holding = Holding.AdoptedAndOffered; adopted = cut_key; offered = second; awaited = Some (record { id = 1; asking = Ordinary }); offered_signs = true }
 
 abbrev cut_offered : Resolver
-cut_offered = record { holding = Holding.AdoptedAndOffered; adopted = first; offered = cut_key; awaited = OpenRequest.Sent 1 Ordinary; offered_signs = true }
+cut_offered = record { holding = Holding.AdoptedAndOffered; adopted = first; offered = cut_key; awaited = Some (record { id = 1; asking = Ordinary }); offered_signs = true }
 
 -- "6 NOKEY (no key for that request": no adopted key; no offered key.
 pub no_key :

@@ -1,6 +1,5 @@
 -- Judging another server's replies: 02, CR 12. Two replies, without their TSIGs, are compared field by field in wire order. Assumes nothing.
-use Rattle.std.specs.Prelude.{ℕ, zero, suc, ◌+◌, ◌<◌, ◌≡◌, Bool, true, false, cond, ◌&&◌, ◌⊎◌, List, [], ◌∷◌, ◌++◌, length, get_or, drop, ltb, eqb}
-use Rattle.std.proofs.Math.Option.{Option, none, some}
+use Rattle.std.specs.Prelude.{ℕ, zero, suc, ◌+◌, ◌<◌, ◌≡◌, Bool, true, false, cond, ◌&&◌, ◌⊎◌, List, [], ◌∷◌, ◌++◌, length, get_or, drop, ltb, eqb, Option, None, Some}
 use Rattle.model.specs.Octets.{u16_at, part, Reading, stops, reads, then}
 use Rattle.model.specs.Names.{read_name, read_plain, same_name}
 use Rattle.model.specs.Messages.{Question, Record, Message, read_message}
@@ -144,10 +143,10 @@ SameMeaning a b = same_fields (fields_of a) (fields_of b) ≡ true
 -- "The place in theirs of the first field that differs, in wire order"; none where none differs. Where theirs has no field left, its end: of two
 -- messages that read, a count differs before that.
 unfoldable pub first_in : ℕ → List Placed → List Placed → Option ℕ
-first_in end [] [] = none
-first_in end [] (y ∷ ys) = some y.place
-first_in end (x ∷ xs) [] = some end
-first_in end (x ∷ xs) (y ∷ ys) = cond (same_field x.field y.field) (first_in end xs ys) (some y.place)
+first_in end [] [] = None
+first_in end [] (y ∷ ys) = Some y.place
+first_in end (x ∷ xs) [] = Some end
+first_in end (x ∷ xs) (y ∷ ys) = cond (same_field x.field y.field) (first_in end xs ys) (Some y.place)
 
 unfoldable pub first_difference : List ℕ → List ℕ → Option ℕ
 first_difference ours theirs = first_in (length theirs) (fields_of ours) (fields_of theirs)
@@ -188,8 +187,8 @@ abbrev pub verdict : ℕ → ℕ → Verdict
 verdict number place = record { number = number; place = place }
 
 abbrev pub by_difference : Option ℕ → Verdict
-by_difference none = verdict DONE 0
-by_difference (some place) = verdict DIFFERS place
+by_difference None = verdict DONE 0
+by_difference (Some place) = verdict DIFFERS place
 
 -- "6 FORMAT", with its place; "21 with the place in theirs of the first field that differs".
 abbrev pub by_reading : List ℕ → List ℕ → Reading Message → Verdict

@@ -1,10 +1,8 @@
 -- What a name server asks beside the calls, of a table and of a message, so that it needs no reader of either of its own. An inquiry takes no time and
 -- changes nothing. It ends with a number of 01's list, refusals in their order, and with what it tells: nothing where it is refused. Assumes nothing.
-use Rattle.std.specs.Prelude.{ℕ, ◌+◌, max, Bool, cond, not, ◌&&◌, ◌||◌, List, [], length, leb, ltb, eqb}
-use Rattle.std.proofs.Math.Option.{Option, none, some}
+use Rattle.std.specs.Prelude.{ℕ, ◌+◌, max, Bool, cond, not, ◌&&◌, ◌||◌, List, [], length, leb, ltb, eqb, Option, None, Some}
+use Rattle.model.specs.declared.Algorithm.{Algorithm}
 use Rattle.model.specs.declared.Algorithm.TheVariants.{Sha256, Sha384, Sha512}
-use Rattle.model.specs.declared.Named.{Named}
-use Rattle.model.specs.declared.Named.TheVariants.{Known, Unknown}
 use Rattle.model.specs.declared.Key.{Key}
 use Rattle.model.specs.declared.Keys.{Keys}
 use Rattle.model.specs.declared.Pair.{Pair}
@@ -89,8 +87,8 @@ pair_shown t pair =
 
 -- Keys are told apart by their serials, which a pair gives once; 0 stands for no key.
 abbrev pub serial_of : Option Key → ℕ
-serial_of none = 0
-serial_of (some k) = k.serial
+serial_of None = 0
+serial_of (Some k) = k.serial
 
 unfoldable pub adopted_serial : Keys → ℕ
 adopted_serial keys = serial_of (adopted_of keys)
@@ -131,7 +129,7 @@ pub record Asks : Type 0 where
   pub second : Option (List ℕ)
 
 unfoldable pub unasked_at : ℕ → ℕ → Asks
-unasked_at n place = record { number = n; place = place; mode = 0; algorithm = 0; inception = 0; expiration = 0; key = []; second = none }
+unasked_at n place = record { number = n; place = place; mode = 0; algorithm = 0; inception = 0; expiration = 0; key = []; second = None }
 
 unfoldable pub unasked : ℕ → Asks
 unasked n = unasked_at n 0
@@ -140,20 +138,20 @@ unasked n = unasked_at n 0
 abbrev pub unread_at : ℕ → Asks
 unread_at place = unasked_at FORMAT place
 
-unfoldable pub number_named : Named → ℕ
-number_named (Known Sha256) = 256
-number_named (Known Sha384) = 384
-number_named (Known Sha512) = 512
-number_named Unknown = 0
+unfoldable pub number_named : Option Algorithm → ℕ
+number_named (Some Sha256) = 256
+number_named (Some Sha384) = 384
+number_named (Some Sha512) = 512
+number_named None = 0
 
 abbrev pub content_of : Option Record → Option (List ℕ)
-content_of none = none
-content_of (some r) = some r.content
+content_of None = None
+content_of (Some r) = Some r.content
 
 -- With no well formed TKEY nothing is asked: mode 0, which is reserved, and all else empty.
 abbrev pub asks_with : Option Record → Option Tkey → Asks
-asks_with second none = unasked DONE
-asks_with second (some t) =
+asks_with second None = unasked DONE
+asks_with second (Some t) =
     record {
       number = DONE;
       place = 0;

@@ -1,7 +1,6 @@
 -- The lines of a listing, and when a line reads: 02, CR 7 (CR 9 for the clock line). "A line reads when it has this shape, newline included, with numbers
 -- below 2^64 and a suffix of 1 to 128 octets." The shape is Listing's. Assumes nothing.
-use Rattle.std.specs.Prelude.{ℕ, ◌-◌, Bool, true, false, cond, ◌&&◌, ◌||◌, List, [], ◌∷◌, length, leb, ltb, eqb}
-use Rattle.std.proofs.Math.Option.{Option, none, some}
+use Rattle.std.specs.Prelude.{ℕ, ◌-◌, Bool, true, false, cond, ◌&&◌, ◌||◌, List, [], ◌∷◌, length, leb, ltb, eqb, Option, None, Some}
 use Rattle.model.specs.declared.Algorithm.{Algorithm}
 use Rattle.model.specs.declared.Algorithm.TheVariants.{Sha256, Sha384, Sha512}
 use Rattle.model.specs.declared.Keys.TheVariants.{Empty}
@@ -45,16 +44,16 @@ pub record Fields : Type 0 where
   pub further : List (List ℕ)
 
 abbrev pub ended : List ℕ → Option Fields
-ended [] = some (record { first = []; further = [] })
-ended (c ∷ cs) = none
+ended [] = Some (record { first = []; further = [] })
+ended (c ∷ cs) = None
 
 abbrev pub parted : Option Fields → Option Fields
-parted none = none
-parted (some w) = some (record { first = []; further = w.first ∷ w.further })
+parted None = None
+parted (Some w) = Some (record { first = []; further = w.first ∷ w.further })
 
 abbrev pub begun : ℕ → Option Fields → Option Fields
-begun c none = none
-begun c (some w) = some (record { first = c ∷ w.first; further = w.further })
+begun c None = None
+begun c (Some w) = Some (record { first = c ∷ w.first; further = w.further })
 
 -- By whether the octet c is a newline, and whether it is a tab; cs are the octets behind it.
 abbrev pub fields_from : Bool → Bool → ℕ → List ℕ → Option Fields → Option Fields
@@ -63,24 +62,24 @@ fields_from false true c cs rest = parted rest
 fields_from false false c cs rest = begun c rest
 
 unfoldable pub fields_of : List ℕ → Option Fields
-fields_of [] = none
+fields_of [] = None
 fields_of (c ∷ cs) = fields_from (eqb c 10) (eqb c 9) c cs (fields_of cs)
 
 -- ── What a field says ───────────────────────────────────────────────────────────────────────────────────────────────
 
 -- "Numbers have no leading zeros", and are "below 2^64".
 unfoldable pub plain_number : List ℕ → Option ℕ
-plain_number [] = none
+plain_number [] = None
 plain_number (c ∷ []) = number_of (c ∷ [])
 plain_number (c ∷ d ∷ ds) = only_if (ltb 48 c) (number_of (c ∷ d ∷ ds))
 
 -- "Suffix octets in lower-case hexadecimal."
 unfoldable pub low_nibble : ℕ → Option ℕ
-low_nibble c = cond (is_digit c) (some (c - 48)) (cond (leb 97 c && leb c 102) (some (c - 87)) none)
+low_nibble c = cond (is_digit c) (Some (c - 48)) (cond (leb 97 c && leb c 102) (Some (c - 87)) None)
 
 unfoldable pub low_hex : List ℕ → Option (List ℕ)
-low_hex [] = some []
-low_hex (a ∷ []) = none
+low_hex [] = Some []
+low_hex (a ∷ []) = None
 low_hex (a ∷ b ∷ cs) = octet_before (low_nibble a) (low_nibble b) (low_hex cs)
 
 -- Octets: each is below 256. (What is read in hexadecimal is so.)
@@ -89,35 +88,35 @@ are_octets s = every (λ x. ltb x 256) s
 
 -- "A suffix of 1 to 128 octets."
 abbrev pub suffix_sized : List ℕ → Option (List ℕ)
-suffix_sized s = only_if (leb 1 (length s) && leb (length s) 128) (some s)
+suffix_sized s = only_if (leb 1 (length s) && leb (length s) 128) (Some s)
 
 -- "`adopted` or `waiting`": whether it is adopted.
 unfoldable pub is_adopted : List ℕ → Option Bool
-is_adopted f = cond (is_word f adopted_word) (some true) (cond (is_word f waiting_word) (some false) none)
+is_adopted f = cond (is_word f adopted_word) (Some true) (cond (is_word f waiting_word) (Some false) None)
 
 -- One of the three algorithms.
 unfoldable pub algorithm_said : List ℕ → Option Algorithm
 algorithm_said f =
-    cond (is_word f (algorithm_word Sha256)) (some Sha256)
-    (cond (is_word f (algorithm_word Sha384)) (some Sha384)
-    (cond (is_word f (algorithm_word Sha512)) (some Sha512)
-    none))
+    cond (is_word f (algorithm_word Sha256)) (Some Sha256)
+    (cond (is_word f (algorithm_word Sha384)) (Some Sha384)
+    (cond (is_word f (algorithm_word Sha512)) (Some Sha512)
+    None))
 
 -- ── What a line says ────────────────────────────────────────────────────────────────────────────────────────────────
 
 -- What must be there, and is handed on; else nothing.
 abbrev pub given : {A B : Type 0} → Option A → (A → Option B) → Option B
-given none next = none
-given (some a) next = next a
+given None next = None
+given (Some a) next = next a
 
 -- The next of the further fields, which must say something; and that there is no more.
 abbrev pub field : {A B : Type 0} → (List ℕ → Option A) → List (List ℕ) → (A → List (List ℕ) → Option B) → Option B
-field says [] next = none
+field says [] next = None
 field says (f ∷ fs) next = given (says f) (λ a. next a fs)
 
 abbrev pub no_more : {B : Type 0} → List (List ℕ) → B → Option B
-no_more [] b = some b
-no_more (f ∷ fs) b = none
+no_more [] b = Some b
+no_more (f ∷ fs) b = None
 
 -- A line that begins with this word, by its further fields.
 abbrev pub worded : {B : Type 0} → List ℕ → List ℕ → (List (List ℕ) → Option B) → Option B

@@ -1,6 +1,5 @@
 -- Listing, loading and mending: 02, CR 7. Assumes nothing.
-use Rattle.std.specs.Prelude.{ℕ, zero, suc, ◌+◌, Bool, true, false, cond, not, ◌&&◌, ◌||◌, List, [], ◌∷◌, ◌++◌, map, length, leb, ltb, eqb}
-use Rattle.std.proofs.Math.Option.{Option, none, some}
+use Rattle.std.specs.Prelude.{ℕ, zero, suc, ◌+◌, Bool, true, false, cond, not, ◌&&◌, ◌||◌, List, [], ◌∷◌, ◌++◌, map, length, leb, ltb, eqb, Option, None, Some}
 use Rattle.model.specs.declared.Keys.{Keys}
 use Rattle.model.specs.declared.Keys.TheVariants.{Empty, Adopted, Renewing}
 use Rattle.model.specs.declared.Pair.{Pair}
@@ -52,29 +51,29 @@ reads_as false top l = is_some (read_pair l)
 -- The first that does not read of these lines, the first of them line n.
 abbrev pub unread_or : Bool → ℕ → Option ℕ → Option ℕ
 unread_or true n rest = rest
-unread_or false n rest = some n
+unread_or false n rest = Some n
 
 unfoldable pub unread_from : Bool → ℕ → List (List ℕ) → Option ℕ
-unread_from top n [] = none
+unread_from top n [] = None
 unread_from top n (l ∷ ls) = unread_or (reads_as (is_key_line l) top l) n (unread_from (top && is_key_line l) (suc n) ls)
 
 -- "The first line that does not read (line 1 if empty)."
 unfoldable pub first_unread : List (List ℕ) → Option ℕ
-first_unread [] = some 1
+first_unread [] = Some 1
 first_unread (l ∷ ls) = unread_or (is_some (read_clock l)) 1 (unread_from true 2 ls)
 
 -- ── What the lines of a pair say ────────────────────────────────────────────────────────────────────────────────────
 
 -- "Then its keys, adopted first": no key, one adopted key, or one adopted key and one waiting. "Keys in the wrong number or order .. break a table rule."
 unfoldable pub keys_of : List Stated → Option Keys
-keys_of [] = some Empty
-keys_of (a ∷ []) = only_if a.adopted (some (Adopted a.key))
-keys_of (a ∷ w ∷ []) = only_if (a.adopted && not w.adopted) (some (Renewing a.key w.key))
-keys_of (a ∷ w ∷ k ∷ ks) = none
+keys_of [] = Some Empty
+keys_of (a ∷ []) = only_if a.adopted (Some (Adopted a.key))
+keys_of (a ∷ w ∷ []) = only_if (a.adopted && not w.adopted) (Some (Renewing a.key w.key))
+keys_of (a ∷ w ∷ k ∷ ks) = None
 
 unfoldable pub read_keys : List (List ℕ) → Option (List Stated)
-read_keys [] = some []
-read_keys (l ∷ ls) = given (read_key l) λ k. given (read_keys ls) λ ks. some (k ∷ ks)
+read_keys [] = Some []
+read_keys (l ∷ ls) = given (read_key l) λ k. given (read_keys ls) λ ks. Some (k ∷ ks)
 
 -- What a block says: a line of it does not read; or the pair's suffix, and the pair, where its keys are in the right number and order.
 pub data Entry : Type 0 where
@@ -82,9 +81,9 @@ pub data Entry : Type 0 where
   says : List ℕ → Option Pair → Entry
 
 abbrev pub entry_from : Option Row → Option (List Stated) → Entry
-entry_from none ks = unread
-entry_from (some r) none = unread
-entry_from (some r) (some ks) = says r.suffix (given (keys_of ks) λ keys. some (with_keys r.pair r.pair.next_serial keys))
+entry_from None ks = unread
+entry_from (Some r) None = unread
+entry_from (Some r) (Some ks) = says r.suffix (given (keys_of ks) λ keys. Some (with_keys r.pair r.pair.next_serial keys))
 
 unfoldable pub entry_of : Block → Entry
 entry_of b = entry_from (read_pair b.starts) (read_keys b.below)
@@ -93,24 +92,24 @@ entry_of b = entry_from (read_pair b.starts) (read_keys b.below)
 
 -- The rows that blocks say, and the table that lines say: none where a line does not read, or keys are in the wrong number or order.
 abbrev pub row_from : Entry → Option Row
-row_from unread = none
-row_from (says suffix none) = none
-row_from (says suffix (some p)) = some (record { suffix = suffix; pair = p })
+row_from unread = None
+row_from (says suffix None) = None
+row_from (says suffix (Some p)) = Some (record { suffix = suffix; pair = p })
 
 unfoldable pub rows_of : List Block → Option (List Row)
-rows_of [] = some []
-rows_of (b ∷ bs) = given (row_from (entry_of b)) λ r. given (rows_of bs) λ rs. some (r ∷ rs)
+rows_of [] = Some []
+rows_of (b ∷ bs) = given (row_from (entry_of b)) λ r. given (rows_of bs) λ rs. Some (r ∷ rs)
 
 abbrev pub rows_below : List (List ℕ) → List Block → Option (List Row)
 rows_below [] bs = rows_of bs
-rows_below (l ∷ ls) bs = none
+rows_below (l ∷ ls) bs = None
 
 unfoldable pub table_said : List (List ℕ) → Option Table
-table_said [] = none
+table_said [] = None
 table_said (l ∷ ls) =
     given (read_clock l) λ c.
     given (rows_below (blocks_of ls).loose (blocks_of ls).blocks) λ rs.
-    some (record { clock = c.clock; floor = c.floor; rows = rs })
+    Some (record { clock = c.clock; floor = c.floor; rows = rs })
 
 -- "Refusals, in order: 18 LINE with the first line that does not read .., 1 TABLE for a broken rule." (Loading is never refused with ROOM.)
 pub data Loaded : Type 0 where
@@ -119,9 +118,9 @@ pub data Loaded : Type 0 where
   loaded : Table → Loaded
 
 abbrev pub loaded_by : Option ℕ → Option Table → Loaded
-loaded_by (some n) t = no_line n
-loaded_by none none = no_table
-loaded_by none (some t) = cond (table_rules t) (loaded t) no_table
+loaded_by (Some n) t = no_line n
+loaded_by None None = no_table
+loaded_by None (Some t) = cond (table_rules t) (loaded t) no_table
 
 unfoldable pub load : List ℕ → Loaded
 load s = loaded_by (first_unread (lines_of s)) (table_said (lines_of s))
@@ -162,8 +161,8 @@ pub data Judged : Type 0 where
   drops : ℕ → Judged
 
 abbrev pub sound_row : ℕ → List ℕ → Option Pair → Judged
-sound_row clock suffix none = drops TABLE
-sound_row clock suffix (some p) = cond (suffix_ok suffix && pair_rule clock p) (keeps (record { suffix = suffix; pair = p })) (drops TABLE)
+sound_row clock suffix None = drops TABLE
+sound_row clock suffix (Some p) = cond (suffix_ok suffix && pair_rule clock p) (keeps (record { suffix = suffix; pair = p })) (drops TABLE)
 
 unfoldable pub judged : ℕ → List Row → Entry → Judged
 judged clock kept unread = drops LINE
@@ -216,8 +215,8 @@ abbrev pub mended_with : Clocked → Kept → Mended
 mended_with c k = mended (record { clock = c.clock; floor = c.floor; rows = k.rows }) k.dropped
 
 abbrev pub mended_by : Option Clocked → Blocks → Mended
-mended_by none b = no_clock
-mended_by (some c) b =
+mended_by None b = no_clock
+mended_by (Some c) b =
     cond (clocked_rule c)
     (mended_with c (dropping (dropped_from LINE 2 (length b.loose)) (kept_from c.clock [] (2 + length b.loose) b.blocks)))
     no_rule

@@ -2,14 +2,13 @@
 use Prim.Native.Nat.{ℕ, ◌+◌, ◌-◌, ◌≤◌, ◌<◌}
 use mathlib.Core.Bool.{Bool, true, false, ◌&&◌}
 use mathlib.Core.Path.{◌≡◌, refl, sym, ap, ◌∙◌}
-use mathlib.Core.Option.{none, some}
+use Rattle.std.specs.Prelude.{None, Some, Option, Result as Searched, Ok, Err}
 use mathlib.Core.List.{List}
 use native.Mathlib.Omega.{arith}
 use lib.Dec.{leb, ltb, eqb}
 use lib.ListN.{length, length-map}
 use borrow.Author.Tests.{lt-ltb, le-ltb, leb-true, eq-eqb, ne_eqb}
 use Rattle.model.specs.declared.Algorithm.{Algorithm}
-use Rattle.model.specs.declared.Named.TheVariants.{Known, Unknown}
 use Rattle.model.specs.declared.Answer.{Answer}
 use Rattle.model.specs.declared.Key.{Key}
 use Rattle.model.specs.declared.Pair.{Pair}
@@ -20,9 +19,6 @@ use Rattle.model.specs.Judging.{adopted_of}
 use Rattle.model.specs.Calls.{DONE, TABLE, TIME, NOPAIR, NOKEY, SPENT, NAME, TERM, TWIN, FULL, Result, refusal_at, refusal, done, unchanged, time_fits, gate, empty_table, new_table, with_row, first_serial, fresh_pair, enrolled, enrol_passed, enrol_on, without_row, closed, close_passed, close_on, number_owner, issue, revoke, served}
 use Rattle.model.proofs.Tests.{left, right, and_false}
 use Rattle.model.proofs.CallLaws.{number_none, number_some, issue_nopair, issue_spent, issue_term, issue_done, revoke_nopair, revoke_empty, revoke_expired, revoke_done, enrol_name, enrol_term, enrol_algorithm, enrol_twin, enrol_full, enrol_spent, enrol_done}
-use Rattle.pairs.specs.declared.Held.{Held}
-use Rattle.pairs.specs.declared.Held.TheVariants.{Nothing, Is}
-use Rattle.pairs.specs.Held.{key_of}
 use Rattle.pairs.specs.Fits.{Fits, issued_in}
 use Rattle.pairs.proofs.Fit.{issued_fits}
 use Rattle.pairs.proofs.Fit.{rule_fits}
@@ -30,9 +26,8 @@ use Rattle.rules.proofs.Laws.{suffix_long, suffix_short}
 use Rattle.store.proofs.Laid.{shown as shown-laid}
 use Rattle.store.specs.Layout.{floor_of, count_of, laid_table, layout_rule, table_of}
 use Rattle.store.specs.Stored.{Cleared}
-use Rattle.searching.specs.declared.Found.{Found}
-use Rattle.searching.specs.declared.Found.TheVariants.{Row, Missing}
-use Rattle.searching.specs.Search.{found_row, Sought}
+use Rattle.std.specs.Result.{result_ok}
+use Rattle.searching.specs.Search.{Sought}
 use Rattle.inserting.specs.Insert.{Ready, Inserted}
 use Rattle.removing.specs.Remove.{Removed}
 use Rattle.outcomes.specs.Gate.{refusal_of, Open}
@@ -77,7 +72,7 @@ module _ (time : ℕ) (w s : List ℕ) (a : Answer) where
 -- ── Enrolment ───────────────────────────────────────────────────────────────────────────────────────────────────────
 
 -- By the first refusal.
-module _ (t : Table) (time n : ℕ) (says : gate t (some time) ≡ refusal_of n) (suffix : List ℕ) (lifetime fresh algorithm : ℕ) where
+module _ (t : Table) (time n : ℕ) (says : gate t (Some time) ≡ refusal_of n) (suffix : List ℕ) (lifetime fresh algorithm : ℕ) where
   pub enrol_refused : (n ≡ 0 → ⊥) → enrol_on t time suffix lifetime fresh algorithm ≡ unchanged t n
   unfolding enrol_on
   enrol_refused z = ap (enrol_passed t time suffix lifetime fresh algorithm) (says ∙ some_refusal n z)
@@ -120,21 +115,21 @@ module _ (w s suffix : List ℕ) (lifetime fresh n : ℕ) (a : Answer) where
     bad_term h e = rest_refused enrols w s 13 (omega arith) e (enrol_term (table_of w s) suffix lifetime fresh n named h)
 
     module _ (term : term_ok lifetime fresh ≡ true) where
-      pub bad_algorithm : algorithm_numbered n ≡ Unknown → a ≡ (refusal 13).answer → Rest enrols w s w s a
+      pub bad_algorithm : algorithm_numbered n ≡ None → a ≡ (refusal 13).answer → Rest enrols w s w s a
       unfolding TERM
       bad_algorithm h e = rest_refused enrols w s 13 (omega arith) e (enrol_algorithm (table_of w s) suffix lifetime fresh n named term h)
 
-      module _ (g : Algorithm) (known : algorithm_numbered n ≡ Known g) (r : Found) (found : Sought w s suffix r) where
-        pub known_twin : (i : ℕ) → r ≡ Row i → a ≡ (refusal 14).answer → Rest enrols w s w s a
+      module _ (g : Algorithm) (known : algorithm_numbered n ≡ Some g) (r : Searched ℕ ℕ) (found : Sought w s suffix r) where
+        pub known_twin : (i : ℕ) → r ≡ Ok i → a ≡ (refusal 14).answer → Rest enrols w s w s a
         unfolding TWIN
-        known_twin i h e = rest_refused enrols w s 14 (omega arith) e (enrol_twin (table_of w s) suffix lifetime fresh n named term g known i (found.says ∙ ap found_row h))
+        known_twin i h e = rest_refused enrols w s 14 (omega arith) e (enrol_twin (table_of w s) suffix lifetime fresh n named term g known i (found.says ∙ ap result_ok h))
 
-        module _ (place time : ℕ) (missing : r ≡ Missing place) (o : Open w s time) where
+        module _ (place time : ℕ) (missing : r ≡ Err place) (o : Open w s time) where
           pub known_full : 64 ≤ count_of w → a ≡ (refusal 15).answer → Rest enrols w s w s a
           unfolding FULL
           known_full h e =
               rest_refused enrols w s 15 (omega arith) e
-              (enrol_full (table_of w s) suffix lifetime fresh n named term g known (found.says ∙ ap found_row missing) (le-ltb (length (table_of w s).rows) 64 (omega (arith, shown_count w s o.layout))))
+              (enrol_full (table_of w s) suffix lifetime fresh n named term g known (found.says ∙ ap result_ok missing) (le-ltb (length (table_of w s).rows) 64 (omega (arith, shown_count w s o.layout))))
 
           roomy : count_of w < 64 → ltb (length (table_of w s).rows) 64 ≡ true
           roomy h = lt-ltb (length (table_of w s).rows) 64 (omega (arith, shown_count w s o.layout))
@@ -143,7 +138,7 @@ module _ (w s suffix : List ℕ) (lifetime fresh n : ℕ) (a : Answer) where
           unfolding SPENT
           known_spent h q e =
               rest_refused enrols w s 11 (omega arith) e
-              (enrol_spent (table_of w s) suffix lifetime fresh n named term g known (found.says ∙ ap found_row missing) (roomy h)
+              (enrol_spent (table_of w s) suffix lifetime fresh n named term g known (found.says ∙ ap result_ok missing) (roomy h)
               (ap (λ (x : ℕ). ltb x 0x1_0000_0000) (shown_floor w s o.layout) ∙ le-ltb (floor_of w) 0x1_0000_0000 q))
 
           pub known_done : count_of w < 64 → floor_of w < 0x1_0000_0000 → {w' s' : List ℕ} {p : Pair} → p ≡ issued (fresh_pair (floor_of w) lifetime fresh) time g → RowAdded suffix p w s w' s' a → Rest enrols w s w' s' a
@@ -151,13 +146,13 @@ module _ (w s suffix : List ℕ) (lifetime fresh n : ℕ) (a : Answer) where
               let t = table_of w s in
               let f = shown_floor w s o.layout in
               rest_done enrols w s w' s' _ _ added.says
-              (enrol_done t suffix lifetime fresh n named term g known (found.says ∙ ap found_row missing) (roomy h)
+              (enrol_done t suffix lifetime fresh n named term g known (found.says ∙ ap result_ok missing) (roomy h)
               (ap (λ (x : ℕ). ltb x 0x1_0000_0000) f ∙ lt-ltb (floor_of w) 0x1_0000_0000 q)
               ∙ ap (λ (x : ℕ). record { table = with_row t suffix (issued (fresh_pair (first_serial t) lifetime fresh) x g); outcome = done (length t.rows + 1) (first_serial t) }) o.clock
               ∙ ap (λ (q : Pair). record { table = with_row t suffix q; outcome = done (length t.rows + 1) (first_serial t) }) (ap (λ (x : ℕ). issued (fresh_pair x lifetime fresh) time g) f ∙ sym is))
 
 -- what the search tells an insertion
-pub ready : (w s suffix : List ℕ) (r : Found) → Sought w s suffix r → (place : ℕ) → r ≡ Missing place → layout_rule w s ≡ true → count_of w < 64 → suffix_ok suffix ≡ true → Ready place suffix w s
+pub ready : (w s suffix : List ℕ) (r : Searched ℕ ℕ) → Sought w s suffix r → (place : ℕ) → r ≡ Err place → layout_rule w s ≡ true → count_of w < 64 → suffix_ok suffix ≡ true → Ready place suffix w s
 ready w s suffix r found place e ok room named = record { rule = ok; room = room; long = suffix_long suffix named; short = suffix_short suffix named; gap = found.gap place e }
 
 -- ── Issue and revoke early ──────────────────────────────────────────────────────────────────────────────────────────
@@ -168,7 +163,7 @@ module _ (t : Table) (pair : ℕ) (b : Bool) (is : b ≡ (leb 1 pair && leb pair
   unfolding names_of
   names_count = length-map t.rows (λ r. r.suffix)
 
-  pub no_row : b ≡ false → number_owner (names_of t) pair ≡ none
+  pub no_row : b ≡ false → number_owner (names_of t) pair ≡ None
   no_row e = number_none (names_of t) pair (rw names_count (sym is ∙ e))
 
   module _ (e : b ≡ true) where
@@ -178,22 +173,22 @@ module _ (t : Table) (pair : ℕ) (b : Bool) (is : b ≡ (leb 1 pair && leb pair
     at_most : pair ≤ length t.rows
     at_most = leb-true _ _ (right (leb 1 pair) (leb pair (length t.rows)) (sym is ∙ e))
 
-    pub its_row : number_owner (names_of t) pair ≡ some (pair - 1)
+    pub its_row : number_owner (names_of t) pair ≡ Some (pair - 1)
     its_row = number_some (names_of t) pair (pair - 1) (omega (arith, above_nought)) (omega (arith, at_most, names_count))
 
     pub row_in : pair - 1 < length t.rows
     row_in = omega (arith, above_nought, at_most)
 
 module _ (w s : List ℕ) (time n : ℕ) (a : Answer) where
-  pub issue_none : (g : ℕ) → number_owner (names_of (table_of w s)) n ≡ none → a ≡ (refusal 9).answer → Rest (λ t. served t (issue time n g)) w s w s a
+  pub issue_none : (g : ℕ) → number_owner (names_of (table_of w s)) n ≡ None → a ≡ (refusal 9).answer → Rest (λ t. served t (issue time n g)) w s w s a
   unfolding NOPAIR
   issue_none g h e = rest_refused (λ t. served t (issue time n g)) w s 9 (omega arith) e (issue_nopair (table_of w s) time n g h)
 
-  pub revoke_none : number_owner (names_of (table_of w s)) n ≡ none → a ≡ (refusal 9).answer → Rest (λ t. served t (revoke time n)) w s w s a
+  pub revoke_none : number_owner (names_of (table_of w s)) n ≡ None → a ≡ (refusal 9).answer → Rest (λ t. served t (revoke time n)) w s w s a
   unfolding NOPAIR
   revoke_none h e = rest_refused (λ t. served t (revoke time n)) w s 9 (omega arith) e (revoke_nopair (table_of w s) time n h)
 
-  module _ (i : ℕ) (p : Pair) (is : p ≡ pair_at (table_of w s) i) (own : number_owner (names_of (table_of w s)) n ≡ some i) where
+  module _ (i : ℕ) (p : Pair) (is : p ≡ pair_at (table_of w s) i) (own : number_owner (names_of (table_of w s)) n ≡ Some i) where
     abbrev t : Table
     t = table_of w s
 
@@ -206,37 +201,37 @@ module _ (w s : List ℕ) (time n : ℕ) (a : Answer) where
       row_spent h e = rest_refused issues w s 11 (omega arith) e (issue_spent t time n g i own (rw (← is) (le-ltb _ _ h)))
 
       module _ (rest : p.next_serial < 0x1_0000_0000) where
-        pub row_term : algorithm_numbered g ≡ Unknown → a ≡ (refusal 13).answer → Rest issues w s w s a
+        pub row_term : algorithm_numbered g ≡ None → a ≡ (refusal 13).answer → Rest issues w s w s a
         unfolding TERM
         row_term u e = rest_refused issues w s 13 (omega arith) e (issue_term t time n g i own (rw (← is) (lt-ltb _ _ rest)) u)
 
-        pub row_issued : (h : Algorithm) → algorithm_numbered g ≡ Known h → {q : Pair} {w' : List ℕ} → q ≡ issued p time h → Settled i q p.next_serial w s w' a → Rest issues w s w' s a
+        pub row_issued : (h : Algorithm) → algorithm_numbered g ≡ Some h → {q : Pair} {w' : List ℕ} → q ≡ issued p time h → Settled i q p.next_serial w s w' a → Rest issues w s w' s a
         row_issued h k {q} {w'} q-is st =
             rest_done issues w s w' s _ _ st.says
             (issue_done t time n g i own h (rw (← is) (lt-ltb _ _ rest)) k
             ∙ ap (λ (x : Pair). record { table = with_pair t i (issued x time h); outcome = done (i + 1) x.next_serial }) (sym is)
             ∙ ap (λ (x : Pair). record { table = with_pair t i x; outcome = done (i + 1) p.next_serial }) (sym q-is))
 
-    module _ (r : Held) (held : adopted_of p.keys ≡ key_of r) where
+    module _ (r : Option Key) (held : r ≡ adopted_of p.keys) where
       abbrev revokes : Table → Result
       revokes u = served u (revoke time n)
 
-      its_key : adopted_of (pair_at t i).keys ≡ key_of r
-      its_key = ap (λ (q : Pair). adopted_of q.keys) (sym is) ∙ held
+      its_key : adopted_of (pair_at t i).keys ≡ r
+      its_key = ap (λ (q : Pair). adopted_of q.keys) (sym is) ∙ sym held
 
-      pub row_empty : r ≡ Nothing → a ≡ (refusal 10).answer → Rest revokes w s w s a
+      pub row_empty : r ≡ None → a ≡ (refusal 10).answer → Rest revokes w s w s a
       unfolding NOKEY
-      row_empty h e = rest_refused revokes w s 10 (omega arith) e (revoke_empty t time n i own (its_key ∙ ap key_of h))
+      row_empty h e = rest_refused revokes w s 10 (omega arith) e (revoke_empty t time n i own (its_key ∙ h))
 
-      module _ (k : Key) (h : r ≡ Is k) where
+      module _ (k : Key) (h : r ≡ Some k) where
         pub row_expired : k.expiry ≤ time → a ≡ (refusal 10).answer → Rest revokes w s w s a
         unfolding NOKEY
-        row_expired l e = rest_refused revokes w s 10 (omega arith) e (revoke_expired t time n i own k (its_key ∙ ap key_of h) (le-ltb _ _ l))
+        row_expired l e = rest_refused revokes w s 10 (omega arith) e (revoke_expired t time n i own k (its_key ∙ h) (le-ltb _ _ l))
 
         pub row_revoked : time < k.expiry → {q : Pair} {w' : List ℕ} → q ≡ revoked p time → Settled i q k.serial w s w' a → Rest revokes w s w' s a
         row_revoked l {q} {w'} q-is st =
             rest_done revokes w s w' s _ _ st.says
-            (revoke_done t time n i own k (its_key ∙ ap key_of h) (lt-ltb _ _ l)
+            (revoke_done t time n i own k (its_key ∙ h) (lt-ltb _ _ l)
             ∙ ap (λ (x : Pair). record { table = with_pair t i (revoked x time); outcome = done (i + 1) k.serial }) (sym is)
             ∙ ap (λ (x : Pair). record { table = with_pair t i x; outcome = done (i + 1) k.serial }) (sym q-is))
 
@@ -247,7 +242,7 @@ row_fits w s time o i h e = rw e (rule_fits o.tested time (pair_at (table_of w s
 -- ── Closing ─────────────────────────────────────────────────────────────────────────────────────────────────────────
 
 -- By the first refusal.
-module _ (t : Table) (time n : ℕ) (says : gate t (some time) ≡ refusal_of n) (number : ℕ) where
+module _ (t : Table) (time n : ℕ) (says : gate t (Some time) ≡ refusal_of n) (number : ℕ) where
   pub close_refused : (n ≡ 0 → ⊥) → close_on t time number ≡ unchanged t n
   unfolding close_on
   close_refused z = ap (close_passed t time number) (says ∙ some_refusal n z)
@@ -264,10 +259,10 @@ module _ (w s : List ℕ) (n : ℕ) (a : Answer) where
   abbrev closes : Table → Result
   closes t = closed t n
 
-  pub close_none : number_owner (names_of (table_of w s)) n ≡ none → a ≡ (refusal 9).answer → Rest closes w s w s a
+  pub close_none : number_owner (names_of (table_of w s)) n ≡ None → a ≡ (refusal 9).answer → Rest closes w s w s a
   unfolding closed NOPAIR
   close_none h e = rest_refused closes w s 9 (omega arith) e (rw h refl)
 
-  pub close_done : {i : ℕ} {w' s' : List ℕ} → number_owner (names_of (table_of w s)) n ≡ some i → Removed i w s w' s' → a ≡ (done 0 0).answer → Rest closes w s w' s' a
+  pub close_done : {i : ℕ} {w' s' : List ℕ} → number_owner (names_of (table_of w s)) n ≡ Some i → Removed i w s w' s' → a ≡ (done 0 0).answer → Rest closes w s w' s' a
   unfolding closed done
   close_done {i} {w'} {s'} own r e = rest_done closes w s w' s' {t = without_row (table_of w s) i} 0 0 (rw (r.table, e) refl) (rw own refl)

@@ -2,7 +2,7 @@
 use Prim.Native.Nat.{ℕ, zero, suc, ◌+◌, ◌-◌, ◌≤◌, ◌<◌}
 use mathlib.Core.Path.{◌≡◌, refl, sym, ap, ◌∙◌}
 use mathlib.Core.Bool.{Bool, true, false}
-use mathlib.Core.Option.{Option, none, some}
+use Rattle.std.specs.Prelude.{Option, None, Some, Result as Either, Err}
 use mathlib.Core.List.{List, [], ◌∷◌}
 use native.Mathlib.Omega.{arith}
 use lib.ListN.{length, get_or, set, drop, length-take}
@@ -22,7 +22,9 @@ use Rattle.store.specs.Stored.{ClockSet, PairStored}
 use Rattle.store.proofs.Laid.{laid, shown as shown-laid}
 use Rattle.store.proofs.Storing.{row_of, rows_length}
 use Rattle.ruling.proofs.Laws.{broken_layout}
-use Rattle.outcomes.specs.Gate.{refusal_of, First, Open, Entered}
+use Rattle.outcomes.specs.declared.Refusal.{Refusal}
+use Rattle.outcomes.specs.declared.Refusal.TheVariants.{Table as NoTable, Time, Clock, Room, NoPair, NoKey, Spent, Name, Term, Twin, Full}
+use Rattle.outcomes.specs.Gate.{refusal_of, number_of, number_in, First, Open, Entered}
 use Rattle.outcomes.specs.Ends.{shown, Served, Own, Rest, Settled}
 
 -- ── A store, as it is shown ─────────────────────────────────────────────────────────────────────────────────────────
@@ -74,21 +76,21 @@ module _ (w s : List ℕ) where
 -- ── The gate ────────────────────────────────────────────────────────────────────────────────────────────────────────
 
 module _ (t : Table) (time : ℕ) (b : Bool) (is : b ≡ table_rules t) where
-  pub gate_table : b ≡ false → gate t (some time) ≡ some 1
+  pub gate_table : b ≡ false → gate t (Some time) ≡ Some 1
   unfolding gate TABLE
   gate_table e = rw (sym is ∙ e) refl
 
   module _ (kept : b ≡ true) where
-    pub gate_time : 0xffff_8000_0000 ≤ time → gate t (some time) ≡ some 2
+    pub gate_time : 0xffff_8000_0000 ≤ time → gate t (Some time) ≡ Some 2
     unfolding gate TIME time_fits
     gate_time h = rw (sym is ∙ kept, le-ltb time 0xffff_8000_0000 h) refl
 
     module _ (fits : time < 0xffff_8000_0000) where
-      pub gate_clock : time < t.clock → gate t (some time) ≡ some 3
+      pub gate_clock : time < t.clock → gate t (Some time) ≡ Some 3
       unfolding gate CLOCK time_fits time_goes_on
       gate_clock h = rw (sym is ∙ kept, lt-ltb time 0xffff_8000_0000 fits, lt-leb t.clock time h) refl
 
-      pub gate_open : t.clock ≤ time → gate t (some time) ≡ none
+      pub gate_open : t.clock ≤ time → gate t (Some time) ≡ None
       unfolding gate time_fits time_goes_on
       gate_open h = rw (sym is ∙ kept, lt-ltb time 0xffff_8000_0000 fits, le-leb t.clock time h) refl
 
@@ -157,9 +159,29 @@ module _ (w s : List ℕ) (time n : ℕ) (f : First w s time n) where
       passed = λ _. opened;
     }
 
-pub some_refusal : (n : ℕ) → (n ≡ 0 → ⊥) → refusal_of n ≡ some n
+pub some_refusal : (n : ℕ) → (n ≡ 0 → ⊥) → refusal_of n ≡ Some n
 some_refusal zero z = absurd (z refl)
 some_refusal (suc n) z = refl
+
+module _ {A : Type 0} {r : Either A Refusal} {x : Refusal} (is : r ≡ Err x) where
+  pub refused_number : number_in r ≡ 0 → ⊥
+  refused_number z = go x (sym (ap number_in is) ∙ z)
+    where
+      go : (x : Refusal) → number_of x ≡ 0 → ⊥
+      go NoTable e = omega arith
+      go Time e = omega arith
+      go Clock e = omega arith
+      go Room e = omega arith
+      go NoPair e = omega arith
+      go NoKey e = omega arith
+      go Spent e = omega arith
+      go Name e = omega arith
+      go Term e = omega arith
+      go Twin e = omega arith
+      go Full e = omega arith
+
+  pub refused_answer : {a : Answer} → a ≡ (refusal (number_of x)).answer → a ≡ (refusal (number_in r)).answer
+  refused_answer e = e ∙ ap (λ (n : ℕ). (refusal n).answer) (sym (ap number_in is))
 
 -- ── The ends of a call ──────────────────────────────────────────────────────────────────────────────────────────────
 
@@ -198,7 +220,7 @@ module _ (call : Table → Result) (w s : List ℕ) (time : ℕ) (w₁ : List �
       }
 
 -- of a call on one pair
-module _ (t : Table) (time n : ℕ) (says : gate t (some time) ≡ refusal_of n) (c : Call) (timed : time_of c ≡ some time) where
+module _ (t : Table) (time n : ℕ) (says : gate t (Some time) ≡ refusal_of n) (c : Call) (timed : time_of c ≡ Some time) where
   pub call_refused : (n ≡ 0 → ⊥) → called t c ≡ unchanged t n
   call_refused z = refused_first t c n (ap (gate t) timed ∙ says ∙ some_refusal n z)
 

@@ -7,60 +7,105 @@ ghost use Rattle.model.specs.Names.{algorithm_numbered};
 ghost use Rattle.model.specs.Tables.{suffix_at, pair_at, table_rules};
 ghost use Rattle.model.specs.Calls.{refusal, done};
 ghost use Rattle.store.specs.Layout.{layout_rule, table_of};
-ghost use Rattle.outcomes.specs.Gate.{First, Entered};
-ghost use Rattle.outcomes.specs.Ends.{Settled};
+ghost use Rattle.outcomes.specs.Gate.{number_of, number_in, First, Entered};
+ghost use Rattle.outcomes.specs.Ends.{answer_in, Settled};
 
-use model::{Algorithm, Answer, Named, Pair};
+use model::{Algorithm, Answer, Pair};
+
+// The refusals of a call or an inquiry that reads no message, each with its number (document 01, "Numbers a caller sees").
+#[derive(Clone, Copy)]
+pub enum Refusal {
+    Table,
+    Time,
+    Clock,
+    Room,
+    NoPair,
+    NoKey,
+    Spent,
+    Name,
+    Term,
+    Twin,
+    Full,
+}
+
+impl Refusal {
+    pub fn number(self) -> u64
+        ensures { result ≡ number_of self }
+    {
+        match self {
+            Refusal::Table => 1,
+            Refusal::Time => 2,
+            Refusal::Clock => 3,
+            Refusal::Room => 8,
+            Refusal::NoPair => 9,
+            Refusal::NoKey => 10,
+            Refusal::Spent => 11,
+            Refusal::Name => 12,
+            Refusal::Term => 13,
+            Refusal::Twin => 14,
+            Refusal::Full => 15,
+        }
+    }
+}
 
 // ── Answers ─────────────────────────────────────────────────────────────────────────────────────────────────────────
 
+#[tactic(auto, unfolding(model::specs::Calls::refusal, model::specs::Calls::refusal_at))]
 pub fn refused(n: u64) -> Answer
     ensures { result ≡ (refusal n).answer }
 {
     results::bare(n, 0, 0, 0)
 }
 
+#[tactic(auto, unfolding(model::specs::Calls::done, model::specs::Calls::DONE))]
 pub fn finished(pair: u64, serial: u64) -> Answer
     ensures { result ≡ (done pair serial).answer }
 {
     results::bare(0, pair, serial, 0)
 }
 
-// ── The refusals that come first ────────────────────────────────────────────────────────────────────────────────────
-
-// TIME or CLOCK, or 0, where the table keeps the rules.
-fn late(words: &[u64], suffixes: &[u8], time: u64) -> u64
-    requires { table_rules (table_of words.now suffixes.now) ≡ true }
-    ensures { First words.now suffixes.now time result }
+// The answer of a call that is done, or refused.
+pub fn answered(r: Result<Answer, Refusal>) -> Answer
+    ensures { result ≡ answer_in r }
 {
-    if 0xffff_8000_0000 <= time {
-        return 2;
+    match r {
+        Ok(a) => a,
+        Err(refusal) => refused(refusal.number()),
     }
-    if time < words[0] {
-        return 3;
-    }
-    0 // neither
 }
 
-// The gate of a call with a time, where the table keeps the rules: TIME or CLOCK, with every word left; or 0, with the clock set.
-pub fn enter_ruled(words: &mut [u64], suffixes: &[u8], time: u64) -> u64
-    requires { table_rules (table_of words.old suffixes.now) ≡ true }
-    ensures { Entered words.old suffixes.now time words.new result }
+// ── The refusals that come first ────────────────────────────────────────────────────────────────────────────────────
+
+// TIME or CLOCK, where the table keeps the rules.
+fn late(words: &[u64], suffixes: &[u8], time: u64) -> Result<(), Refusal>
+    requires { table_rules (table_of words.now suffixes.now) ≡ true }
+    ensures { First words.now suffixes.now time (number_in result) }
 {
-    let n = late(words, suffixes, time);
-    if n != 0 {
-        return n;
+    if 0xffff_8000_0000 <= time {
+        return Err(Refusal::Time);
     }
+    if time < words[0] {
+        return Err(Refusal::Clock);
+    }
+    Ok(())
+}
+
+// The gate of a call with a time, where the table keeps the rules: TIME or CLOCK, with every word left; else the clock is set.
+pub fn enter_ruled(words: &mut [u64], suffixes: &[u8], time: u64) -> Result<(), Refusal>
+    requires { table_rules (table_of words.old suffixes.now) ≡ true }
+    ensures { Entered words.old suffixes.now time words.new (number_in result) }
+{
+    late(words, suffixes, time)?;
     store::set_clock(words, time);
-    0
+    Ok(())
 }
 
 // The gate of every call with a time: TABLE first.
-pub fn enter(words: &mut [u64], suffixes: &[u8], time: u64) -> u64
-    ensures { Entered words.old suffixes.now time words.new result }
+pub fn enter(words: &mut [u64], suffixes: &[u8], time: u64) -> Result<(), Refusal>
+    ensures { Entered words.old suffixes.now time words.new (number_in result) }
 {
     if !ruling::rules_ok(words, suffixes) {
-        return 1;
+        return Err(Refusal::Table);
     }
     enter_ruled(words, suffixes, time)
 }
@@ -103,13 +148,14 @@ pub fn settle(words: &mut [u64], suffixes: &[u8], row: usize, p: Pair, serial: u
 
 // ── What an operator names ──────────────────────────────────────────────────────────────────────────────────────────
 
-pub fn algorithm_numbered(n: u64) -> Named
+#[tactic(auto, unfolding(model::specs::Names::algorithm_numbered))]
+pub fn algorithm_numbered(n: u64) -> Option<Algorithm>
     ensures { result ≡ algorithm_numbered n }
 {
     match n {
-        256 => Named::Known(Algorithm::Sha256),
-        384 => Named::Known(Algorithm::Sha384),
-        512 => Named::Known(Algorithm::Sha512),
-        _ => Named::Unknown,
+        256 => Some(Algorithm::Sha256),
+        384 => Some(Algorithm::Sha384),
+        512 => Some(Algorithm::Sha512),
+        _ => None,
     }
 }

@@ -3,7 +3,8 @@
 use Prim.Native.Nat.{ℕ, ◌≤◌, ◌<◌}
 use mathlib.Core.Path.{◌≡◌, refl, sym}
 use mathlib.Core.Bool.{Bool, true, false, not}
-use mathlib.Core.Option.{Option, none, some, none-ne-some}
+use Rattle.std.specs.Prelude.{Option, None, Some}
+use Rattle.std.proofs.lemmas.Option.{none-some}
 use mathlib.Core.Logic.{◌⊎◌, inl, inr}
 use mathlib.Core.List.{List, [], ◌∷◌}
 use native.Mathlib.Omega.{arith}
@@ -49,7 +50,7 @@ new_wire : (h : Holder) → Ruled h → (g : Given) (m : Message) (d : Decision)
 unfolding held_pair held_suffix no_pair made suffix_ok
 new_wire nobody r g m d s scheme a e =
     let t : Allows g m no_pair (Renews scheme a) = rw e at s in
-    absurd (none-ne-some _ t.allowed.is_signer)
+    absurd (none-some _ t.allowed.is_signer)
 new_wire (holder number suffix p) r g m d s scheme a e =
     let t : Allows g m p (Renews scheme a) = rw e at s in
     let w = each (leb 3 (length suffix) ∷ leb (length suffix) 128 ∷ wire_name suffix ∷ []) r.0 in
@@ -100,18 +101,18 @@ module _ (x : List ℕ) (o : AllOctets x) (one : OneQuestion x) (t : Table) (g :
   ruled rules i h = (suffix_ok_lem t rules i h, (row_ok t rules (at_member t.rows i no_row h)).one)
 
   -- the row that a message belongs to is one of the table's
-  signed_below : (names : List (List ℕ)) (s : Signature) (i : ℕ) → signed_by names s ≡ some i → i < length names
-  signed_below names unsigned i e = absurd (none-ne-some i e)
-  signed_below names misplaced i e = absurd (none-ne-some i e)
+  signed_below : (names : List (List ℕ)) (s : Signature) (i : ℕ) → signed_by names s ≡ Some i → i < length names
+  signed_below names unsigned i e = absurd (none-some i e)
+  signed_below names misplaced i e = absurd (none-some i e)
   signed_below names (well_placed s) i e = row_below names _ i e
 
-  read_below : (names : List (List ℕ)) (r : Reading Message) (i : ℕ) → read_by names r ≡ some i → i < length names
-  read_below names (stops place) i e = absurd (none-ne-some i e)
+  read_below : (names : List (List ℕ)) (r : Reading Message) (i : ℕ) → read_by names r ≡ Some i → i < length names
+  read_below names (stops place) i e = absurd (none-some i e)
   read_below names (reads m next) i e = signed_below names (signature m.records) i e
 
-  owner_below : (names : List (List ℕ)) (i : ℕ) → octets_owner names x ≡ some i → i < length names
+  owner_below : (names : List (List ℕ)) (i : ℕ) → octets_owner names x ≡ Some i → i < length names
   unfolding octets_owner
-  owner_below names i e = either (λ (n : Option ℕ). n ≡ some i → i < length names) (size_ok x) (λ _. read_below names (read_message x) i) (λ _ f. absurd (none-ne-some i f)) e
+  owner_below names i e = either (λ (n : Option ℕ). n ≡ Some i → i < length names) (size_ok x) (λ _. read_below names (read_message x) i) (λ _ f. absurd (none-some i f)) e
 
   names_many : length (names_of (with_clock t g.now)) ≡ length t.rows
   unfolding names_of with_clock
@@ -119,29 +120,29 @@ module _ (x : List ℕ) (o : AllOctets x) (one : OneQuestion x) (t : Table) (g :
 
   on_table : table_rules t ≡ true → (n : Option ℕ) → octets_owner (names_of (with_clock t g.now)) x ≡ n → Ours (served_by (with_clock t g.now) (message g 65535 x) n).outcome.reply
   unfolding step_of
-  on_table rules none e = (good_message x o one nobody tt g).is
-  on_table rules (some i) e =
+  on_table rules None e = (good_message x o one nobody tt g).is
+  on_table rules (Some i) e =
       let h : i < length t.rows = omega (arith, owner_below (names_of (with_clock t g.now)) i e, names_many) in
       (good_message x o one (holder_at (with_clock t g.now) i) (ruled rules i h) g).is
 
   -- a call that is not refused at once is on a table that keeps the rules
-  rules_kept : gate t (some g.now) ≡ none → table_rules t ≡ true
+  rules_kept : gate t (Some g.now) ≡ None → table_rules t ≡ true
   unfolding gate
   rules_kept e = go (table_rules t) e
     where
-      go : (b : Bool) → check some TABLE b (time_gate (some g.now) t.clock) ≡ none → b ≡ true
+      go : (b : Bool) → check Some TABLE b (time_gate (Some g.now) t.clock) ≡ None → b ≡ true
       go true f = refl
-      go false f = absurd (none-ne-some TABLE (sym f))
+      go false f = absurd (none-some TABLE (sym f))
 
-  by_gate : (n : Option ℕ) → gate t (some g.now) ≡ n → Ours (passed t (message g 65535 x) n).outcome.reply
+  by_gate : (n : Option ℕ) → gate t (Some g.now) ≡ n → Ours (passed t (message g 65535 x) n).outcome.reply
   unfolding unchanged refusal refusal_at time_of served owner_of
-  by_gate (some n) e = inl refl
-  by_gate none e = on_table (rules_kept e) (octets_owner (names_of (with_clock t g.now)) x) refl
+  by_gate (Some n) e = inl refl
+  by_gate None e = on_table (rules_kept e) (octets_owner (names_of (with_clock t g.now)) x) refl
 
   -- Our reply is empty or proper.
   pub own_call : Ours (ours_of t g x)
   unfolding ours_of message_on called time_of
-  own_call = by_gate (gate t (some g.now)) refl
+  own_call = by_gate (gate t (Some g.now)) refl
 
   -- So the other server's is accepted, where it is the same.
   pub own_call_accepted : compared (ours_of t g x) (ours_of t g x) ≡ verdict DONE 0

@@ -2,7 +2,7 @@
 use Prim.Native.Nat.{ℕ, suc, ◌+◌, ◌%◌, ◌≤◌}
 use mathlib.Core.Path.{◌≡◌, refl, sym, subst}
 use mathlib.Core.Bool.{Bool, true, false, cond}
-use mathlib.Core.Option.{Option, none, some}
+use Rattle.std.specs.Prelude.{Option, None, Some}
 use mathlib.Core.Logic.{◌⊎◌, inl, inr}
 use mathlib.Core.List.{List, [], ◌∷◌, ◌++◌, append-nil, append_assoc}
 use lib.Dec.{ltb, eqb}
@@ -63,12 +63,12 @@ typed_owners t (r ∷ rs) o = go (eqb r.type t) (typed_owners t rs o.1)
 
 -- a TKEY that a record holds has that record's owner for its name
 abbrev Owned : List ℕ → Option Tkey → Type 0
-Owned owner none = Unit {0}
-Owned owner (some k) = k.name ≡ owner
+Owned owner None = Unit {0}
+Owned owner (Some k) = k.name ≡ owner
 
 with_owned : (r : Record) (algorithm : List ℕ) (at : ℕ) (other : List ℕ) (o : Option Old) → Owned r.owner (tkey_with r algorithm at other o)
-with_owned r algorithm at other none = tt
-with_owned r algorithm at other (some old) = refl
+with_owned r algorithm at other None = tt
+with_owned r algorithm at other (Some old) = refl
 
 named_owned : (r : Record) (n : Reading (List ℕ)) → Owned r.owner (tkey_named r n)
 unfolding tkey_times tkey_key tkey_other
@@ -82,12 +82,12 @@ named_owned r (reads algorithm at) =
     (λ _. with_owned r algorithm at (part c (tail + 2) (u16_at c tail)) (old_of (u16_at c (at + 8)) (part c (tail + 2) (u16_at c tail)))) (λ _. tt)
 
 abbrev Wired : Option Tkey → Type 0
-Wired none = Unit {0}
-Wired (some k) = wire_name k.name ≡ true
+Wired None = Unit {0}
+Wired (Some k) = wire_name k.name ≡ true
 
 wired : (owner : List ℕ) (o : Option Tkey) → wire_name owner ≡ true → Owned owner o → Wired o
-wired owner none w e = tt
-wired owner (some k) w e = rw e w
+wired owner None w e = tt
+wired owner (Some k) w e = rw e w
 
 placed_wired : (rs : List Record) → Owners rs → Wired (placed_tkey (only rs))
 unfolding tkey_of
@@ -111,8 +111,8 @@ added_owners (r ∷ rs) o = go (is_additional r) (added_owners rs o.1)
     go false p = p
 
 abbrev Kept : Option Record → Type 0
-Kept none = Unit {0}
-Kept (some r) = wire_name r.owner ≡ true
+Kept None = Unit {0}
+Kept (Some r) = wire_name r.owner ≡ true
 
 only_kept : (rs : List Record) → Owners rs → Kept (only rs)
 only_kept [] o = tt
@@ -138,8 +138,8 @@ module _ (x : List ℕ) (o : AllOctets x) (m : Message) (end : ℕ) (says : read
 
   repeated_sound : (f : Tkey → List ℕ) (error : ℕ) (k : Option Tkey) → Wired k → Sound (with_tkey (λ k. heading m 0 1 0 ++ repeated k error (f k)) k)
   unfolding repeated
-  repeated_sound f error none w fits = inl refl
-  repeated_sound f error (some k) w fits = tkey_sound k.name (tkey_data k.algorithm k.inception k.expiration k.mode error k.key (f k)) w fits
+  repeated_sound f error None w fits = inl refl
+  repeated_sound f error (Some k) w fits = tkey_sound k.name (tkey_data k.algorithm k.inception k.expiration k.mode error k.key (f k)) w fits
 
   -- behind the TKEY other answers, and one additional record
   both_sound : (name content : List ℕ) (r : Record) (more : List Entry) → wire_name name ≡ true → wire_name r.owner ≡ true → AllRead more
@@ -171,9 +171,9 @@ module _ (x : List ℕ) (o : AllOctets x) (m : Message) (end : ℕ) (says : read
       → (k : Option Tkey) (r : Option Record) → Kept r
       → Sound (with_tkey (λ k. with_key (λ r. granted_reply m g scheme k r (held_suffix h) (made (held_pair h) g.now a)) r) k)
   unfolding granted_reply granted
-  renewed_sound h g scheme a w s none r v fits = inl refl
-  renewed_sound h g scheme a w s (some k) none v fits = inl refl
-  renewed_sound h g scheme a w s (some k) (some r) v fits =
+  renewed_sound h g scheme a w s None r v fits = inl refl
+  renewed_sound h g scheme a w s (Some k) None v fits = inl refl
+  renewed_sound h g scheme a w s (Some k) (Some r) v fits =
       let new = made (held_pair h) g.now a in
       lent_sound scheme (key_name new.serial (held_suffix h)) (tkey_data k.algorithm (new.inception % 4294967296) (new.expiry % 4294967296) k.mode 0 (key_data scheme k g.offer) k.other) g.second r w v s fits
 

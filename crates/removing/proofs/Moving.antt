@@ -8,9 +8,11 @@ use native.Mathlib.Omega.{arith}
 use borrow.Author.Tests.{lt-ltb, le-ltb}
 use lib.ListN.{length, get_or, set, length-set}
 use lib.Seq.{get_or-set_same, get_or-set_other}
+use borrow.Rule.Slice.PartMut.{put_mid}
+use Rattle.std.specs.List.{CopiedTo, SameBelow, SameFrom}
 use Rattle.store.specs.Layout.{floor_of, place_of, row_in}
 use Rattle.inserting.specs.Insert.{up_from}
-use Rattle.inserting.proofs.Moving.{up_low, up_high}
+use Rattle.inserting.proofs.Moving.{Partly, up_low, up_high, before_part, in_part, after_part, part_size}
 use Rattle.removing.specs.Remove.{down_from, MovedDown, Remapped, Renumbered, Closed, Headed}
 
 -- ── Where a number goes ─────────────────────────────────────────────────────────────────────────────────────────────
@@ -24,44 +26,44 @@ module _ {g x : ℕ} where
   unfolding down_from
   down_high h = simp (lt-ltb g x h)
 
--- ── A turn of each loop ─────────────────────────────────────────────────────────────────────────────────────────────
+-- ── What was copied, and a turn of each loop ────────────────────────────────────────────────────────────────────────
 
-pub moved_none : (from by : ℕ) (b : List ℕ) → MovedDown from from by b b
-moved_none from by b = record { size = refl; moved = λ i h g. absurd (omega arith); kept = λ i h. refl }
-
-pub moved_more : {from i by : ℕ} {b v : List ℕ} → from ≤ i → i + by < length b → MovedDown from i by b v → MovedDown from (i + 1) by b (set v i (get_or v (i + by) 0))
-moved_more {from} {i} {by} {b} {v} low room m =
-    record {
-      size = length-set v i (get_or v (i + by) 0) ∙ m.size;
-      moved = λ j h g. moved j h g (ℕ_discrete j i);
-      kept = λ j h. kept j h;
-    }
-  where
-    moved : (j : ℕ) → from ≤ j → j < i + 1 → Dec (j ≡ i) → get_or (set v i (get_or v (i + by) 0)) j 0 ≡ get_or b (j + by) 0
-    moved j h g (yes e) = rw e (get_or-set_same v i (get_or v (i + by) 0) 0 (omega (arith, m.size)) ∙ m.kept (i + by) (inr (omega arith)))
-    moved j h g (no n) = get_or-set_other v i j (get_or v (i + by) 0) 0 n ∙ m.moved j h (omega arith)
-
-    kept : (j : ℕ) → (j < from) ⊎ (i + 1 ≤ j) → get_or (set v i (get_or v (i + by) 0)) j 0 ≡ get_or b j 0
-    kept j (inl h) = get_or-set_other v i j (get_or v (i + by) 0) 0 (λ e. omega arith) ∙ m.kept j (inl h)
-    kept j (inr h) = get_or-set_other v i j (get_or v (i + by) 0) 0 (λ e. omega arith) ∙ m.kept j (inr (omega arith))
-
-pub remapped_none : (p : ℕ) (w : List ℕ) → Remapped p 0 w w
-remapped_none p w = record { size = refl; places = λ i h. absurd (omega arith); kept = λ i h. refl }
-
-pub remapped_more : {p n x : ℕ} {w v : List ℕ} → 3 + n < length w → x ≡ down_from p (get_or v (3 + n) 0) → Remapped p n w v → Remapped p (n + 1) w (set v (3 + n) x)
-remapped_more {p} {n} {x} {w} {v} room e r = record {
-  size = length-set v (3 + n) x ∙ r.size;
-  places = λ i h. place i h (ℕ_discrete i n);
+pub moved_down :
+    {from to by : ℕ} {b b' : List ℕ} {start end : ℕ}
+    → length b' ≡ length b
+    → from ≤ to
+    → start ≡ from + by
+    → end ≡ to + by
+    → CopiedTo b b' start from (end - start)
+    → SameBelow b b' from
+    → SameFrom b b' (from + (end - start))
+    → MovedDown from to by b b'
+moved_down {from} {to} {by} {b} {b'} {start} {end} size up s e copied below after = record {
+  size = size;
+  moved = λ i h g. let z : start + (i - from) ≡ i + by = omega arith in copied i 0 h (omega arith) ∙ rw z refl;
   kept = λ i h. kept i h;
 }
   where
-    place : (i : ℕ) → i < n + 1 → Dec (i ≡ n) → place_of (set v (3 + n) x) i ≡ down_from p (place_of w i)
-    place i h (yes q) = rw q (get_or-set_same v (3 + n) x 0 (omega (arith, r.size)) ∙ e ∙ ap (down_from p) (r.kept (3 + n) (inr (omega arith))))
-    place i h (no q) = get_or-set_other v (3 + n) (3 + i) x 0 (λ k. q (omega arith)) ∙ r.places i (omega arith)
+    kept : (i : ℕ) → (i < from) ⊎ (to ≤ i) → get_or b' i 0 ≡ get_or b i 0
+    kept i (inl h) = below i 0 h
+    kept i (inr h) = after i 0 (omega arith)
 
-    kept : (i : ℕ) → (i < 3) ⊎ (3 + (n + 1) ≤ i) → get_or (set v (3 + n) x) i 0 ≡ get_or w i 0
-    kept i (inl h) = get_or-set_other v (3 + n) i x 0 (λ k. omega arith) ∙ r.kept i (inl h)
-    kept i (inr h) = get_or-set_other v (3 + n) i x 0 (λ k. omega arith) ∙ r.kept i (inr (omega arith))
+pub remapped :
+    {p n : ℕ} {w : List ℕ} (k : ℕ) (v : List ℕ)
+    → 3 + n ≤ length w
+    → k ≡ n
+    → length v ≡ n
+    → Partly (down_from p) (place_of w) n n v
+    → Remapped p n w (put_mid 3 k w v)
+remapped {p} {n} {w} k v room same long d = record {
+  size = part_size 3 k w v (omega arith) (omega arith);
+  places = λ i h. in_part 3 k w v (omega arith) (omega arith) i (omega arith) ∙ d.done i h;
+  kept = λ i h. kept i h;
+}
+  where
+    kept : (i : ℕ) → (i < 3) ⊎ (3 + n ≤ i) → get_or (put_mid 3 k w v) i 0 ≡ get_or w i 0
+    kept i (inl h) = before_part 3 k w v (omega arith) (omega arith) i h
+    kept i (inr h) = after_part 3 k w v (omega arith) (omega arith) i (omega arith)
 
 pub renumbered_none : (r : ℕ) (w : List ℕ) → Renumbered r 0 w w
 renumbered_none r w = record { size = refl; rows = λ q h. absurd (omega arith); later = λ q h. refl; head = λ i h. refl; rest = λ q k h l. refl }

@@ -10,7 +10,7 @@ use lib.ListN.{length, get_or, take, drop, length-append, length-drop, get_or-ap
 use lib.Seq.{ext_get_or, length-take-le, get_or-take, get_or-drop, get_or-append-add}
 use Rattle.model.specs.Tables.{Row, Table, no_row, row_at, pair_at}
 use Rattle.model.specs.Calls.{without_row}
-use Rattle.ordering.specs.Order.{is_less}
+use Rattle.std.specs.Ordering.{is_lt}
 use Rattle.store.specs.Layout.{count_of, floor_of, place_of, row_in, length_in, pair_start, pair_from, pair_in, suffix_in, laid_table, keys_known, order_rule, layout_rule}
 use Rattle.store.proofs.Codec.{known_ext, pair_at_ext}
 use Rattle.store.proofs.Laid.{Laid, laid, lays, ascends, shows}
@@ -20,6 +20,17 @@ use Rattle.inserting.proofs.Moving.{up_low, up_high}
 use Rattle.inserting.proofs.Inserting.{part_ext, up_most, up_apart}
 use Rattle.removing.specs.Remove.{down_from, MovedDown, Closed, Headed, Removed}
 use Rattle.removing.proofs.Moving.{down_low, down_high}
+
+-- ── What the rule says of the lengths ───────────────────────────────────────────────────────────────────────────────
+
+pub record Sizes (w s : List ℕ) (row : ℕ) : Type 0 where
+  pub words : length w ≡ 1091
+  pub octets : length s ≡ 8192
+  pub few : count_of w ≤ 64
+  pub lands : place_of w row < count_of w
+
+pub sizes : {w s : List ℕ} {row : ℕ} → layout_rule w s ≡ true → row < count_of w → Sizes w s row
+sizes {w} {s} {row} rule low = let l = laid w s rule in record { words = l.words; octets = l.octets; few = l.few; lands = (l.at row low).lands }
 
 -- ── Down and up again ───────────────────────────────────────────────────────────────────────────────────────────────
 
@@ -202,7 +213,7 @@ module _
   order' zero k = refl
   order' (suc q) k =
       let j : q < n = omega arith in
-      rw (suffix_at_lem q j, suffix_at_lem (suc q) k) (ap is_less (ascends l (up_from (place_of w row) q) (up_from (place_of w row) (suc q)) (up_rises (place_of w row) q) (inside (suc q) k)))
+      rw (suffix_at_lem q j, suffix_at_lem (suc q) k) (ap is_lt (ascends l (up_from (place_of w row) q) (up_from (place_of w row) (suc q)) (up_rises (place_of w row) q) (inside (suc q) k)))
 
   laid' : Laid w' s'
   laid' = record {

@@ -1,41 +1,15 @@
 // Closing in a store (02, CR 9): the places above the closed row's own move down by one, the map and the row numbers follow them, and the floor rises.
 #![tactic(auto)]
 
-ghost use Rattle.std.specs.Prelude.{true, ◌≡◌, ◌+◌, ◌≤◌, ◌<◌, max, length};
+ghost use Rattle.std.specs.Prelude.{true, ◌≡◌, ◌+◌, ◌≤◌, ◌<◌, length};
 ghost use Rattle.store.specs.Layout.{count_of, layout_rule};
-ghost use Rattle.removing.specs.Remove.{down_from, MovedDown, Remapped, Renumbered, Closed, Headed, Removed};
-
-// From the first on, so that none is written over before it has moved.
-fn words_down(w: &mut [u64], from: usize, to: usize, by: usize)
-    requires { (from ≤ to) × (to + by ≤ length w.old) }
-    ensures { MovedDown from to by w.old w.new }
-{
-    let mut i = from;
-    while i < to {
-        w[i] = w[i + by];
-        i += 1;
-    }
-}
-
-fn octets_down(s: &mut [u8], from: usize, to: usize, by: usize)
-    requires { (from ≤ to) × (to + by ≤ length s.old) }
-    ensures { MovedDown from to by s.old s.new }
-{
-    let mut i = from;
-    while i < to {
-        s[i] = s[i + by];
-        i += 1;
-    }
-}
+ghost use Rattle.removing.specs.Remove.{down_from, Remapped, Renumbered, Closed, Headed, Removed};
 
 // A number above the gap is one less.
 fn down_from(gap: u64, x: u64) -> u64
     ensures { result ≡ down_from gap x }
 {
-    if gap < x {
-        return x - 1;
-    }
-    x
+    if gap < x { x - 1 } else { x }
 }
 
 // The map of the first n rows: every place above `place` is one less.
@@ -43,10 +17,8 @@ fn remap(w: &mut [u64], place: usize, n: usize)
     requires { 3 + n ≤ length w.old }
     ensures { Remapped place n w.old w.new }
 {
-    let mut i: usize = 0;
-    while i < n {
-        w[3 + i] = down_from(place as u64, w[3 + i]);
-        i += 1;
+    for x in &mut w[3..3 + n] {
+        *x = down_from(place as u64, *x);
     }
 }
 
@@ -55,10 +27,8 @@ fn renumber(w: &mut [u64], row: usize, n: usize)
     requires { (length w.old ≡ 1091) × (n < 64) }
     ensures { Renumbered row n w.old w.new }
 {
-    let mut q: usize = 0;
-    while q < n {
+    for q in 0..n {
         w[67 + q * 16] = down_from(row as u64, w[67 + q * 16]);
-        q += 1;
     }
 }
 
@@ -67,19 +37,10 @@ fn close_place(w: &mut [u64], place: usize, row: usize, n: usize)
     requires { (length w.old ≡ 1091) × (n < 64) × (place ≤ n) × (row ≤ n) }
     ensures { Closed place row n w.old w.new }
 {
-    words_down(w, 67 + place * 16, 67 + n * 16, 16);
-    words_down(w, 3 + row, 3 + n, 1);
+    w.copy_within(83 + place * 16..83 + n * 16, 67 + place * 16);
+    w.copy_within(4 + row..4 + n, 3 + row);
     remap(w, place, n);
     renumber(w, row, n);
-}
-
-fn larger(a: u64, b: u64) -> u64
-    ensures { result ≡ max a b }
-{
-    if a < b {
-        return b;
-    }
-    a
 }
 
 // The count is n, and the floor the larger of itself and the next serial at the place.
@@ -87,7 +48,7 @@ fn set_head(w: &mut [u64], place: usize, n: usize)
     requires { (length w.old ≡ 1091) × (place < 64) }
     ensures { Headed place n w.old w.new }
 {
-    let floor = larger(w[2], w[71 + place * 16]);
+    let floor = w[2].max(w[71 + place * 16]);
     w[1] = n as u64;
     w[2] = floor;
 }
@@ -99,7 +60,7 @@ pub fn remove(words: &mut [u64], suffixes: &mut [u8], row: usize)
 {
     let n = words[1] as usize - 1;
     let place = words[3 + row] as usize;
-    octets_down(suffixes, place * 128, n * 128, 128);
+    suffixes.copy_within(place * 128 + 128..n * 128 + 128, place * 128);
     set_head(words, place, n);
     close_place(words, place, row, n);
 }

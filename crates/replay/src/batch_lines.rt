@@ -1,78 +1,55 @@
 // The script's line that is several messages to the table in one call.
-ghost use Rattle.std.specs.Prelude.{◌<◌};
+use crate::print::{Text, answer};
+use crate::table_lines::{MOST_OF_OCTETS, Table, lent};
+use model::Answer;
+use script::Batch;
+use std::fmt;
+use std::fmt::Write;
 
-use crate::{print, signing_lines};
-use script::Args;
-
-// The seven words of item i's answer.
-fn answer_at(answers: &[u64; 448], i: u64) -> &[u64]
-    requires { i < 64 }
-{
-    let all = &answers[..];
-    let at = (i * 7) as usize;
-    &all[at..at + 7]
+// The answers' lines, each of seven words. The replies stand one after another.
+fn answers_told(answers: &[[u64; 7]], replies: &[u8], text: &mut Text) -> fmt::Result {
+    let mut left = replies;
+    for &[number, length, error, skew, pair, serial, place] in answers {
+        let size = left.len().min(length as usize);
+        let (reply, others) = left.split_at(size);
+        left = others;
+        let said = Answer {
+            number,
+            length,
+            error,
+            skew: skew.cast_signed(),
+            pair,
+            serial,
+            place,
+        };
+        answer(text, said, reply)?;
+    }
+    Ok(())
 }
 
-// Where an answer's reply ends, which begins at `from`.
-fn reply_end(replies: &[u8], from: usize, answer: &[u64]) -> usize {
-    let n = (print::word(answer, 1) % 65536) as usize;
-    if replies.len() < n {
-        return replies.len();
-    }
-    if replies.len() - n < from {
-        return replies.len();
-    }
-    from + n
-}
-
-// The items' lines. The replies stand one after another.
-fn items_told(
-    text: &mut [u8],
-    at: usize,
-    count: u64,
-    answers: &[u64; 448],
-    replies: &[u8],
-) -> usize {
-    let mut next = at;
-    let mut from: usize = 0;
-    let mut i: u64 = 0;
-    while i < 64 {
-        if count <= i {
-            return next;
-        }
-        let answer = answer_at(answers, i);
-        let end = reply_end(replies, from, answer);
-        next = print::result(text, next, answer, script::part(replies, from, end));
-        from = end;
-        i += 1;
-    }
-    next
-}
-
-// Does a batch, whose first items stand in `items`, and prints at the front of text: how many octets. The replies stand at the front of out.
+// Does a batch, whose first items stand in `items`, and prints what it answers. The replies stand at the front of out.
 pub fn batch_line(
-    words: &mut [u64],
-    suffixes: &[u8],
-    a: Args,
+    table: &mut Table,
+    batch: Batch,
     items: &[u64; 576],
-    arena: &[u8],
     out: &mut [u8],
-    text: &mut [u8],
-) -> usize {
+    text: &mut Text,
+) -> fmt::Result {
     let mut answers = [0u64; 448];
-    let count = script::number(a, 3);
     let number = batches::batch(
-        words,
-        suffixes,
-        count,
+        &mut table.words,
+        &table.suffixes,
+        batch.count,
         items,
-        script::octets(a, 2, arena),
+        batch.octets,
         &mut answers,
-        signing_lines::lent(out, script::number(a, 1)),
+        lent(out, batch.room, MOST_OF_OCTETS),
     );
     if number != 0 {
-        return print::numbers(text, 0, number, 0);
+        return writeln!(text, "{number} 0");
     }
-    let at = print::numbers(text, 0, 0, count);
-    items_told(text, at, count, &answers, out)
+    writeln!(text, "0 {}", batch.count)?;
+    let (answers, _) = answers.as_chunks::<7>();
+    let count = answers.len().min(batch.count as usize);
+    answers_told(&answers[..count], out, text)
 }

@@ -13,10 +13,7 @@ use Rattle.model.specs.Judging.{Holder, held_suffix, held_pair, Given}
 use Rattle.model.specs.declared.Scheme.{Scheme}
 use Rattle.model.specs.declared.Scheme.TheVariants.{DiffieHellman, ServerAssignment, ResolverAssignment}
 use Rattle.model.specs.Replies.{flags, heading, repeated, key_data, granted, answers_of, echoed, rcode_reply, tkey_reply, readopted_reply, granted_reply, renewed_reply}
-use Rattle.tkey.specs.declared.OnlyTkey.{OnlyTkey}
-use Rattle.tkey.specs.declared.OnlyTkey.TheVariants.{Nothing, One}
-use Rattle.tkey.specs.declared.OnlyKey.{OnlyKey}
-use Rattle.tkey.specs.declared.OnlyKey.TheVariants.{Nothing as NoKey, One as OneKey}
+use Rattle.std.specs.Prelude.{Option, None, Some}
 use Rattle.tkey.specs.declared.TkeyFields.{TkeyFields}
 use Rattle.tkey.specs.Fields.{tkey_from, tkey_shown}
 use Rattle.tkey.specs.Key.{key_shown}
@@ -26,6 +23,8 @@ use Rattle.matching.specs.Compare.{name_standing}
 use Rattle.replies.specs.Parts.{framed, key_data as keyPart, repeated_octets, renewed_octets, takes_offer, granted_octets}
 use Rattle.replies.specs.Written.{outcome_of, renewal_for}
 use Rattle.replies.proofs.Laws.{key_part}
+use Rattle.tkey.specs.declared.OnlyTkey.{OnlyTkey}
+use Rattle.tkey.specs.declared.OnlyKey.{OnlyKey}
 
 module _ {m : List ℕ} {c : Contents} (x : ContentsRead m c) where
   -- A heading reads the header and the question section alone.
@@ -45,16 +44,16 @@ module _ {m : List ℕ} {c : Contents} (x : ContentsRead m c) where
   unfolding rcode_reply
   refused_reply rcode = sym (heading_framed rcode 0 0)
 
-  pub tkey_reply_lem : (t : OnlyTkey) → only_tkey x.message ≡ tkey_shown m t → (error : ℕ) → outcome_of m c.end t error false ≡ tkey_reply x.message error
+  pub tkey_reply_lem : (t : Option OnlyTkey) → only_tkey x.message ≡ tkey_shown m t → (error : ℕ) → outcome_of m c.end t error false ≡ tkey_reply x.message error
   unfolding tkey_reply repeated repeated_octets
-  tkey_reply_lem Nothing is error = sym (rw is refl)
-  tkey_reply_lem (One place t) is error = sym (rw (is, heading_framed 0 1 0) refl)
+  tkey_reply_lem None is error = sym (rw is refl)
+  tkey_reply_lem (Some t) is error = sym (rw (is, heading_framed 0 1 0) refl)
 
   -- the key is adopted already
-  pub readopted_reply_lem : (t : OnlyTkey) → only_tkey x.message ≡ tkey_shown m t → outcome_of m c.end t 0 true ≡ readopted_reply x.message
+  pub readopted_reply_lem : (t : Option OnlyTkey) → only_tkey x.message ≡ tkey_shown m t → outcome_of m c.end t 0 true ≡ readopted_reply x.message
   unfolding readopted_reply repeated repeated_octets part
-  readopted_reply_lem Nothing is = sym (rw is refl)
-  readopted_reply_lem (One place t) is = sym (rw (is, heading_framed 0 1 0) refl)
+  readopted_reply_lem None is = sym (rw is refl)
+  readopted_reply_lem (Some t) is = sym (rw (is, heading_framed 0 1 0) refl)
 
   -- a granted renewal: the key data of its scheme
   key_same : (scheme : Scheme) (name : List ℕ) (t : TkeyFields) (offer : List ℕ)
@@ -65,10 +64,10 @@ module _ {m : List ℕ} {c : Contents} (x : ContentsRead m c) where
   key_same ResolverAssignment name t offer = key_part m t.key offer
 
   pub renewed_reply_lem :
-      (t : OnlyTkey) → only_tkey x.message ≡ tkey_shown m t → (k : OnlyKey) → only_key x.message ≡ key_shown m k → (h : Holder) (g : Given) (scheme : Scheme) (a : Algorithm)
+      (t : Option OnlyTkey) → only_tkey x.message ≡ tkey_shown m t → (k : Option OnlyKey) → only_key x.message ≡ key_shown m k → (h : Holder) (g : Given) (scheme : Scheme) (a : Algorithm)
       → renewal_for scheme m c.end t k g.offer g.second (held_pair h) (held_suffix h) g.now ≡ renewed_reply h g x.message scheme a
   unfolding renewed_reply granted_reply granted echoed made granted_octets renewed_octets repeated_octets
-  renewed_reply_lem Nothing is k ik h g scheme a = sym (rw is refl)
-  renewed_reply_lem (One place t) is NoKey ik h g scheme a = sym (rw (is, ik) refl)
-  renewed_reply_lem (One place t) is (OneKey at e) ik h g scheme a =
-      sym (rw (is, ik, heading_framed 0 (answers_of scheme) 1, sym (key_same scheme (name_standing m place) t g.offer)) (simp append_assoc))
+  renewed_reply_lem None is k ik h g scheme a = sym (rw is refl)
+  renewed_reply_lem (Some t) is None ik h g scheme a = sym (rw (is, ik) refl)
+  renewed_reply_lem (Some t) is (Some k) ik h g scheme a =
+      sym (rw (is, ik, heading_framed 0 (answers_of scheme) 1, sym (key_same scheme (name_standing m t.place) t.fields g.offer)) (simp append_assoc))

@@ -2,11 +2,12 @@
 use Prim.Native.Nat.{ℕ, ◌+◌, ◌-◌, ◌*◌, ◌≤◌, ◌<◌}
 use mathlib.Core.Path.{◌≡◌, refl, ap₂}
 use mathlib.Core.List.{List, [], ◌∷◌, ◌++◌, append_assoc}
-use mathlib.Core.Bool.{Bool, true, false, cond, ◌&&◌}
+use mathlib.Core.Bool.{Bool, true, false, ◌&&◌}
 use native.Mathlib.Omega.{arith}
 use borrow.Author.Tests.{le-leb, lt-leb}
 use lib.Dec.{leb}
 use lib.ListN.{length, length-append}
+use Rattle.std.specs.Prelude.{Option, Some, None}
 use Rattle.model.specs.Octets.{be16, be32, put}
 use Rattle.model.specs.Messages.{message_of}
 use Rattle.model.specs.Replies.{flags, heading, record_octets, tkey_data, tkey_record}
@@ -68,29 +69,29 @@ no_more_lem : (x : Bool) → (x && false) ≡ false
 no_more_lem true = refl
 no_more_lem false = refl
 
-refused : (reply b : List ℕ) → room_for (length b) reply ≡ false → Replied reply b b 0
-refused reply b e = record { size = rw e refl; left = rw e refl }
+refused : (reply b : List ℕ) → room_for (length b) reply ≡ false → Replied reply b b None
+refused reply b e = record { says = (e, refl) }
 
 -- too long for the buffer, and for any message
-pub no_room : (reply b : List ℕ) → length b < length reply → Replied reply b b 0
+pub no_room : (reply b : List ℕ) → length b < length reply → Replied reply b b None
 unfolding room_for
 no_room reply b h = refused reply b (rw (lt-leb (length reply) (length b) h) refl)
 
-pub too_long : (reply b : List ℕ) → 65535 < length reply → Replied reply b b 0
+pub too_long : (reply b : List ℕ) → 65535 < length reply → Replied reply b b None
 unfolding room_for
 too_long reply b h = refused reply b (rw (lt-leb (length reply) 65535 h) (no_more_lem (leb (length reply) (length b))))
 
-accepted : (reply b b' : List ℕ) (r : ℕ) → room_for (length b) reply ≡ true → r ≡ length reply → b' ≡ put reply b → Replied reply b b' r
-accepted reply b b' r e s l = record { size = rw e s; left = rw e l }
+accepted : (reply b b' : List ℕ) (r : ℕ) → room_for (length b) reply ≡ true → r ≡ length reply → b' ≡ put reply b → Replied reply b b' (Some r)
+accepted reply b b' r e s l = record { says = (e, s, l) }
 
-pub in_room_lem : {reply b b' : List ℕ} {r : ℕ} → Wrote reply 0 b b' r → r ≤ 65535 → Replied reply b b' r
+pub in_room_lem : {reply b b' : List ℕ} {r : ℕ} → Wrote reply 0 b b' r → r ≤ 65535 → Replied reply b b' (Some r)
 unfolding room_for
 in_room_lem {reply} {b} {b'} {r} w h =
     let p = wrote_put w in
     let e : room_for (length b) reply ≡ true = rw (le-leb (length reply) (length b) (omega arith), le-leb (length reply) 65535 (omega arith)) refl in
     accepted reply b b' r e p.0 p.1
 
-pub replied_as : {xs ys b b' : List ℕ} {r : ℕ} → xs ≡ ys → Replied xs b b' r → Replied ys b b' r
+pub replied_as : {xs ys b b' : List ℕ} {r : Option ℕ} → xs ≡ ys → Replied xs b b' r → Replied ys b b' r
 replied_as e w = rw e at w
 
 -- ── Key data ────────────────────────────────────────────────────────────────────────────────────────────────────────
@@ -103,14 +104,3 @@ pub key_short : (b : Bool) (m : List ℕ) (p : Span) (offer : List ℕ) → leng
     → length (key_data b m p.from (p.from + p.size) offer) < 65536
 key_short true m p offer h w o = o
 key_short false m p offer h w o = rw (key_part m p offer) (rw (part_length m p.from p.size w) (omega arith))
-
--- ── What the caller learns from the number ──────────────────────────────────────────────────────────────────────────
-
-by_room : (reply b b' : List ℕ) (r : ℕ) (t : Bool) → 0 < length reply → r ≡ cond t (length reply) 0 → b' ≡ cond t (put reply b) b
-    → ((0 < r → (t ≡ true) × (r ≡ length reply) × (b' ≡ put reply b)) × (r ≡ 0 → (t ≡ false) × (b' ≡ b)))
-by_room reply b b' r true p s l = ((λ h. (refl, s, l)), (λ z. absurd (omega arith)))
-by_room reply b b' r false p s l = ((λ h. absurd (omega arith)), (λ z. (refl, l)))
-
-pub replied_room : (reply b b' : List ℕ) (r : ℕ) → Replied reply b b' r → 0 < length reply
-    → ((0 < r → (room_for (length b) reply ≡ true) × (r ≡ length reply) × (b' ≡ put reply b)) × (r ≡ 0 → (room_for (length b) reply ≡ false) × (b' ≡ b)))
-replied_room reply b b' r w p = by_room reply b b' r (room_for (length b) reply) p w.size w.left

@@ -1,5 +1,5 @@
 -- Replies over the octets of the message: model's definitions (Replies), with parts of the message where they have its contents. Assumes nothing.
-use Rattle.std.specs.Prelude.{ℕ, ◌+◌, ◌-◌, ◌*◌, ◌≤◌, ◌<◌, ◌≡◌, Bool, true, false, cond, List, [], ◌∷◌, ◌++◌, length, take, drop}
+use Rattle.std.specs.Prelude.{Option, Some, None, true, false, ℕ, ◌+◌, ◌-◌, ◌*◌, ◌≤◌, ◌<◌, ◌≡◌, Bool, List, [], ◌∷◌, ◌++◌, length, take, drop}
 use Rattle.model.specs.Octets.{be16, be32, put, part, u16_at}
 use Rattle.model.specs.Messages.{Message, message_of, opcode_of, desired_of}
 use Rattle.model.specs.declared.Scheme.{Scheme}
@@ -72,10 +72,13 @@ repeated_size end owner t key = end + owner + 10 + (t.algorithm.size + 16 + key 
 abbrev pub renewed_size : Grant → ℕ → ℕ → ℕ → ℕ → ℕ
 renewed_size g owner key second subject = repeated_size g.end owner g.fields key + second + subject + 10 + g.echo.content.size
 
--- What the writer of a reply leaves: the reply in the first octets and its length; or, where there is no room for it, nothing and 0.
-pub record Replied (reply entry exit : List ℕ) (r : ℕ) : Type 0 where
-  pub size : r ≡ cond (room_for (length entry) reply) (length reply) 0
-  pub left : exit ≡ cond (room_for (length entry) reply) (put reply entry) entry
+-- What the writer of a reply leaves: the reply in the first octets, and so long; or there is no room for it, and nothing was written.
+abbrev pub RepliedBy : List ℕ → List ℕ → List ℕ → Option ℕ → Type 0
+RepliedBy reply entry exit (Some n) = (room_for (length entry) reply ≡ true) × (n ≡ length reply) × (exit ≡ put reply entry)
+RepliedBy reply entry exit None = (room_for (length entry) reply ≡ false) × (exit ≡ entry)
+
+pub record Replied (reply entry exit : List ℕ) (w : Option ℕ) : Type 0 where
+  pub says : RepliedBy reply entry exit w
 
 -- The places and numbers of a TKEY are the message's, and fit their fields.
 pub record FieldsIn (m : List ℕ) (t : Fields) : Type 0 where

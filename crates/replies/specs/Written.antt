@@ -1,30 +1,24 @@
 -- The whole reply, by the decision and by what was read of the message, and what its writer answers. Assumes nothing.
-use Rattle.std.specs.Prelude.{ℕ, ◌+◌, ◌%◌, ◌^◌, ◌≤◌, ◌<◌, ◌≡◌, Bool, true, false, cond, List, [], eqb, length, take}
+use Rattle.std.specs.Prelude.{ℕ, ◌+◌, ◌%◌, ◌^◌, ◌≤◌, ◌<◌, ◌≡◌, Bool, true, false, List, [], length, take, Option, Some, None}
 use Rattle.model.specs.declared.Span.{Span}
 use Rattle.model.specs.declared.Pair.{Pair}
 use Rattle.model.specs.declared.Decision.{Decision}
 use Rattle.model.specs.declared.Decision.TheVariants.{Unsigned, Refused, Passed, Failed, Renews, Adopts, Readopts, Deletes, Withdraws}
-use Rattle.model.specs.Octets.{put}
 use Rattle.model.specs.Names.{key_name}
 use Rattle.model.specs.Judging.{Holder, held_suffix, held_pair, Given}
 use Rattle.model.specs.declared.Scheme.{Scheme}
 use Rattle.model.specs.Replies.{answers_of, reply_of}
-use Rattle.model.specs.Calls.{room_for}
 use Rattle.matching.specs.Compare.{name_standing}
 use Rattle.records.specs.Record.{cut}
 use Rattle.tkey.specs.declared.TkeyFields.{TkeyFields}
 use Rattle.tkey.specs.declared.KeyFields.{KeyFields}
-use Rattle.tkey.specs.declared.OnlyTkey.{OnlyTkey}
-use Rattle.tkey.specs.declared.OnlyTkey.TheVariants.{Nothing, One}
-use Rattle.tkey.specs.declared.OnlyKey.{OnlyKey}
-use Rattle.tkey.specs.declared.OnlyKey.TheVariants.{Nothing as NoKey, One as OneKey}
 use Rattle.contents.specs.declared.Contents.{Contents}
 use Rattle.contents.specs.Contents.{ContentsRead}
 use Rattle.replies.specs.declared.Fields.{Fields as AnswerFields}
 use Rattle.replies.specs.declared.Grant.{Grant}
-use Rattle.replies.specs.declared.Written.{Written}
-use Rattle.replies.specs.declared.Written.TheVariants.{Reply, NoRoom}
-use Rattle.replies.specs.Parts.{repeated_octets, granted_octets}
+use Rattle.replies.specs.Parts.{repeated_octets, granted_octets, Replied}
+use Rattle.tkey.specs.declared.OnlyTkey.{OnlyTkey}
+use Rattle.tkey.specs.declared.OnlyKey.{OnlyKey}
 
 -- The TKEY that answers the request's: with this error number and this other data; or with the new key's times.
 abbrev pub answer_of : TkeyFields → ℕ → Span → AnswerFields
@@ -40,18 +34,18 @@ grant_of t time expiry =
     record { algorithm = t.algorithm; inception = time % 4294967296; expiration = expiry % 4294967296; mode = t.mode; error = 0; key = t.key; other = t.other }
 
 -- The reply of a TKEY outcome that grants no key, and of a granted renewal, by the only TKEY and the only KEY.
-abbrev pub outcome_of : List ℕ → ℕ → OnlyTkey → ℕ → Bool → List ℕ
-outcome_of m end Nothing error again = []
-outcome_of m end (One place t) error again = repeated_octets m end 1 0 (answer_of t error (other_of t again)) (name_standing m place) (cut m t.key)
+abbrev pub outcome_of : List ℕ → ℕ → Option OnlyTkey → ℕ → Bool → List ℕ
+outcome_of m end None error again = []
+outcome_of m end (Some t) error again = repeated_octets m end 1 0 (answer_of t.fields error (other_of t.fields again)) (name_standing m t.place) (cut m t.fields.key)
 
 abbrev pub grant_by : Scheme → ℕ → TkeyFields → KeyFields → Pair → ℕ → Grant
 grant_by scheme end t e p time = record { end = end; answers = answers_of scheme; fields = grant_of t time (time + p.lifetime); echo = e }
 
-abbrev pub renewal_for : Scheme → List ℕ → ℕ → OnlyTkey → OnlyKey → List ℕ → List ℕ → Pair → List ℕ → ℕ → List ℕ
-renewal_for scheme m end Nothing key offer second p suffix time = []
-renewal_for scheme m end (One place t) NoKey offer second p suffix time = []
-renewal_for scheme m end (One place t) (OneKey at e) offer second p suffix time =
-    granted_octets scheme m (grant_by scheme end t e p time) (key_name p.next_serial suffix) offer second (name_standing m at)
+abbrev pub renewal_for : Scheme → List ℕ → ℕ → Option OnlyTkey → Option OnlyKey → List ℕ → List ℕ → Pair → List ℕ → ℕ → List ℕ
+renewal_for scheme m end None key offer second p suffix time = []
+renewal_for scheme m end (Some t) None offer second p suffix time = []
+renewal_for scheme m end (Some t) (Some k) offer second p suffix time =
+    granted_octets scheme m (grant_by scheme end t.fields k.fields p time) (key_name p.next_serial suffix) offer second (name_standing m k.place)
 
 abbrev pub renewal_octets : Scheme → List ℕ → Contents → List ℕ → List ℕ → Pair → List ℕ → ℕ → List ℕ
 renewal_octets scheme m c offer second p suffix time = renewal_for scheme m c.end c.tkey c.key offer second p suffix time
@@ -61,17 +55,6 @@ pub record NameOut (m : List ℕ) (place : ℕ) (out : List ℕ) (n : ℕ) : Typ
   pub says : take n out ≡ name_standing m place
   pub short : n ≤ 255
   pub room : length out ≡ 255
-
--- What the writer answers of a reply: it is there, and so long; or there is no room, and nothing was written.
-abbrev pub AnswersBy : List ℕ → List ℕ → List ℕ → Written → Type 0
-AnswersBy reply entry exit (Reply n) = (room_for (length entry) reply ≡ true) × (n ≡ length reply) × (exit ≡ put reply entry)
-AnswersBy reply entry exit NoRoom = (room_for (length entry) reply ≡ false) × (exit ≡ entry)
-
-pub record Answers (reply entry exit : List ℕ) (w : Written) : Type 0 where
-  pub says : AnswersBy reply entry exit w
-
-abbrev pub written_by : ℕ → Written
-written_by n = cond (eqb n 0) NoRoom (Reply n)
 
 -- A granted renewal has a serial left, and a time that fits.
 abbrev pub DecisionFits : Decision → Pair → ℕ → Type 0
@@ -99,7 +82,7 @@ is_quiet Withdraws = false
 
 -- The answer and the buffer are those of model's reply to the message that was read, whatever holder and call these are the readings of.
 pub record Replies
-    (m : List ℕ) (c : Contents) (offer second : List ℕ) (p : Pair) (suffix : List ℕ) (time : ℕ) (d : Decision) (entry exit : List ℕ) (w : Written) : Type 0 where
+    (m : List ℕ) (c : Contents) (offer second : List ℕ) (p : Pair) (suffix : List ℕ) (time : ℕ) (d : Decision) (entry exit : List ℕ) (w : Option ℕ) : Type 0 where
   pub answers :
       (x : ContentsRead m c) (h : Holder) (g : Given)
       → held_suffix h ≡ suffix
@@ -107,4 +90,4 @@ pub record Replies
       → g.now ≡ time
       → g.offer ≡ offer
       → g.second ≡ second
-      → Answers (reply_of h g x.message d) entry exit w
+      → Replied (reply_of h g x.message d) entry exit w

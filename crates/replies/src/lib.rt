@@ -9,9 +9,9 @@ ghost use Rattle.octets.specs.Wrote.{Wrote};
 ghost use Rattle.records.specs.Record.{cut, Within};
 ghost use Rattle.contents.specs.Contents.{ContentsRead};
 ghost use Rattle.replies.specs.Parts.{heading_front, heading_back, framed, sized_octets, record_front, tkey_front, data_of, echo_of, key_data, repeated_octets, renewed_octets, takes_offer, granted_octets, repeated_size, renewed_size, Replied, FieldsIn, EchoIn, Read};
-ghost use Rattle.replies.specs.Written.{is_quiet, answer_of, other_of, grant_of, outcome_of, renewal_octets, NameOut, Answers, written_by, DecisionFits, Replies};
+ghost use Rattle.replies.specs.Written.{is_quiet, answer_of, other_of, grant_of, outcome_of, renewal_octets, NameOut, DecisionFits, Replies};
 
-use compression::Got;
+use compression::Name;
 use contents::Contents;
 use model::{Decision, Pair, Scheme, Span};
 use tkey::{KeyFields, OnlyKey, OnlyTkey, TkeyFields};
@@ -265,29 +265,36 @@ fn renewed_into(
     echo_record(buf, b, subject, m, e)
 }
 
-// RCODE alone (01, "The reply"): no record. 0 where there is no room.
-fn rcode_reply(buf: &mut [u8], m: &[u8], end: usize, rcode: usize) -> usize
+// RCODE alone (01, "The reply"): no record. How many octets it has; none where there is no room.
+fn rcode_reply(buf: &mut [u8], m: &[u8], end: usize, rcode: usize) -> Option<usize>
     requires { Read m.now end × (rcode < 256) }
     ensures { Replied (rcode_reply (framed m.now end) rcode) buf.old buf.new result }
 {
     if buf.len() < end {
-        return 0;
+        return None;
     }
-    head(buf, m, end, rcode, 0, 0)
+    Some(head(buf, m, end, rcode, 0, 0))
 }
 
-fn repeated(buf: &mut [u8], m: &[u8], end: usize, t: Fields, owner: &[u8], key: &[u8]) -> usize
+fn repeated(
+    buf: &mut [u8],
+    m: &[u8],
+    end: usize,
+    t: Fields,
+    owner: &[u8],
+    key: &[u8],
+) -> Option<usize>
     requires { Read m.now end × FieldsIn m.now t × (length owner.now < 65536) × (length key.now < 65536) }
     ensures { Replied (repeated_octets m.now end 1 0 t owner.now key.now) buf.old buf.new result }
 {
     let n = repeated_size(end, owner.len(), t, key.len());
     if 65535 < n {
-        return 0;
+        return None;
     }
     if buf.len() < n {
-        return 0;
+        return None;
     }
-    repeated_into(buf, m, end, 1, 0, t, owner, key)
+    Some(repeated_into(buf, m, end, 1, 0, t, owner, key))
 }
 
 fn renewed(
@@ -298,22 +305,22 @@ fn renewed(
     key: &[u8],
     second: &[u8],
     subject: &[u8],
-) -> usize
+) -> Option<usize>
     requires { Read m.now g.end × FieldsIn m.now g.fields × EchoIn m.now g.echo × (g.answers < 65536)
         × (length owner.now < 65536) × (length key.now < 65536) × (length subject.now < 65536) }
     ensures { Replied (renewed_octets m.now g owner.now key.now second.now subject.now) buf.old buf.new result }
 {
     if 65535 < second.len() {
-        return 0;
+        return None;
     }
     let n = renewed_size(g, owner.len(), key.len(), second.len(), subject.len());
     if 65535 < n {
-        return 0;
+        return None;
     }
     if buf.len() < n {
-        return 0;
+        return None;
     }
-    renewed_into(buf, m, g, owner, key, second, subject)
+    Some(renewed_into(buf, m, g, owner, key, second, subject))
 }
 
 // ── The schemes of a renewal (02, CR 10) ────────────────────────────────────────────────────────────────────────────
@@ -358,7 +365,7 @@ fn behind_tkey(scheme: Scheme, second: &[u8]) -> &[u8]
     }
 }
 
-// The reply to a granted renewal, whose NAME is `owner`; `subject` is the echoed KEY's. 0 where there is no room.
+// The reply to a granted renewal, whose NAME is `owner`; `subject` is the echoed KEY's. None where there is no room.
 fn grant_reply<'a>(
     buf: &mut [u8],
     m: &'a [u8],
@@ -368,7 +375,7 @@ fn grant_reply<'a>(
     offer: &'a [u8],
     second: &[u8],
     subject: &[u8],
-) -> usize
+) -> Option<usize>
     requires { Read m.now g.end × FieldsIn m.now g.fields × EchoIn m.now g.echo × (g.answers < 65536)
         × (length owner.now < 65536) × (length offer.now < 65536) × (length subject.now < 65536) }
     ensures { Replied (granted_octets scheme m.now g owner.now offer.now second.now subject.now) buf.old buf.new result }
@@ -380,39 +387,13 @@ fn grant_reply<'a>(
     renewed(buf, m, g, owner, key, behind, subject)
 }
 
-// What the writer of a reply answers: how many octets it has, 0 where there is none; or that there is no room for it.
-#[derive(Clone, Copy)]
-pub enum Written {
-    Reply(usize),
-    NoRoom,
-}
-
-// The answer for a reply that has octets, by the number that its writer answered.
-fn by_length(n: usize) -> Written
-    ensures { result ≡ written_by n }
-{
-    if n == 0 {
-        Written::NoRoom
-    } else {
-        Written::Reply(n)
-    }
-}
-
-// RCODE alone.
-fn refused(buf: &mut [u8], m: &[u8], end: usize, rcode: usize) -> Written
-    requires { Read m.now end × (rcode < 256) }
-    ensures { Answers (rcode_reply (framed m.now end) rcode) buf.old buf.new result }
-{
-    by_length(rcode_reply(buf, m, end, rcode))
-}
-
 // The name at `place` of the message m, written out into `out`: how many octets it has; 0 where none can be read.
 fn name_at(m: &[u8], out: &mut [u8; 255], place: usize) -> usize
     ensures { NameOut m.now place out.new result }
 {
     match compression::read_name(m, out, place) {
-        Got::Bad(_) => 0,
-        Got::Name { len, next: _ } => len,
+        Err(_) => 0,
+        Ok(Name { len, next: _ }) => len,
     }
 }
 
@@ -445,14 +426,14 @@ fn other_data(t: TkeyFields, again: bool) -> Span
 }
 
 // The reply of a TKEY outcome that grants no key: the request's TKEY with this error; where the key was adopted already, without its other data.
-fn outcome(buf: &mut [u8], m: &[u8], c: Contents, error: usize, again: bool) -> Written
+fn outcome(buf: &mut [u8], m: &[u8], c: Contents, error: usize, again: bool) -> Option<usize>
     requires { ContentsRead m.now c × (error < 65536) }
-    ensures { Answers (outcome_of m.now c.end c.tkey error again) buf.old buf.new result }
+    ensures { Replied (outcome_of m.now c.end c.tkey error again) buf.old buf.new result }
 {
     let only = c.tkey;
     match only {
-        OnlyTkey::Nothing => Written::Reply(0),
-        OnlyTkey::One { place, fields } => {
+        None => Some(0),
+        Some(OnlyTkey { place, fields }) => {
             let mut name = [0u8; 255];
             let n = name_at(m, &mut name, place);
             let all = &name[..];
@@ -460,7 +441,7 @@ fn outcome(buf: &mut [u8], m: &[u8], c: Contents, error: usize, again: bool) -> 
             let other = other_data(fields, again);
             let t = answering(fields, error, other);
             let key = records::part_of(m, fields.key);
-            by_length(repeated(buf, m, c.end, t, owner, key))
+            repeated(buf, m, c.end, t, owner, key)
         }
     }
 }
@@ -493,21 +474,23 @@ fn renewal<'a>(
     second: &[u8],
     suffix: &[u8],
     at: Moment,
-) -> Written
+) -> Option<usize>
     requires { ContentsRead m.now c × (at.pair.next_serial < 2 ^ 32) × (at.time + at.pair.lifetime < 2 ^ 64)
         × (length suffix.now ≤ 128) × (length offer.now ≤ 1024) }
-    ensures { Answers (renewal_octets scheme m.now c offer.now second.now at.pair suffix.now at.time) buf.old buf.new result }
+    ensures { Replied (renewal_octets scheme m.now c offer.now second.now at.pair suffix.now at.time) buf.old buf.new result }
 {
     let only = c.tkey;
     let one = c.key;
     match only {
-        OnlyTkey::Nothing => Written::Reply(0),
-        OnlyTkey::One { place: _, fields } => match one {
-            OnlyKey::Nothing => Written::Reply(0),
-            OnlyKey::One {
-                place,
-                fields: echo,
-            } => {
+        None => Some(0),
+        Some(OnlyTkey { place: _, fields }) => match one {
+            None => Some(0),
+            Some(
+                OnlyKey {
+                    place,
+                    fields: echo,
+                },
+            ) => {
                 let mut name = [0u8; 255];
                 let mut subject = [0u8; 255];
                 let k = names::key_name(&mut name, at.pair.next_serial, suffix);
@@ -521,7 +504,7 @@ fn renewal<'a>(
                     fields: t,
                     echo,
                 };
-                by_length(grant_reply(buf, m, g, scheme, &all[0..k], offer, second, &echoed[0..n]))
+                grant_reply(buf, m, g, scheme, &all[0..k], offer, second, &echoed[0..n])
             }
         },
     }
@@ -554,14 +537,14 @@ fn write<'a>(
     second: &[u8],
     suffix: &[u8],
     at: Moment,
-) -> Written
+) -> Option<usize>
     requires { ContentsRead m.now c × DecisionFits d at.pair at.time × (length suffix.now ≤ 128) × (length offer.now ≤ 1024) }
     ensures { Replies m.now c offer.now second.now at.pair suffix.now at.time d buf.old buf.new result }
 {
     match d {
-        Decision::Unsigned => Written::Reply(0),
-        Decision::Refused { rcode, error: _ } => refused(buf, m, c.end, rcode as usize),
-        Decision::Passed { skew: _ } => Written::Reply(0),
+        Decision::Unsigned => Some(0),
+        Decision::Refused { rcode, error: _ } => rcode_reply(buf, m, c.end, rcode as usize),
+        Decision::Passed { skew: _ } => Some(0),
         Decision::Failed { error } => outcome(buf, m, c, error as usize, false),
         Decision::Renews(scheme, _) => renewal(buf, m, c, scheme, offer, second, suffix, at),
         Decision::Adopts => outcome(buf, m, c, 0, false),
@@ -582,12 +565,12 @@ pub fn reply<'a>(
     second: &[u8],
     suffix: &[u8],
     at: Moment,
-) -> Written
+) -> Option<usize>
     requires { ContentsRead m.now c × DecisionFits d at.pair at.time × (length suffix.now ≤ 128) × (length offer.now ≤ 1024) }
     ensures { Replies m.now c offer.now second.now at.pair suffix.now at.time d buf.old buf.new result }
 {
     if is_quiet(d) {
-        return Written::Reply(0);
+        return Some(0);
     }
     write(buf, m, c, d, offer, second, suffix, at)
 }

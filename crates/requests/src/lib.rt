@@ -97,7 +97,7 @@ fn old_key(buf: &mut [u8], at: usize, old: &[u8], g: Algorithm) -> usize
     algorithm_into(buf, a, g)
 }
 
-// A renewal (mode 4098): key is the KEY record, whose length is tested before it is added. 0 where there is no room.
+// A renewal (mode 4098): key is the KEY record, whose length is tested before it is added. None where there is no room.
 pub fn renewal(
     buf: &mut [u8],
     id: u16,
@@ -108,20 +108,20 @@ pub fn renewal(
     old: &[u8],
     old_algorithm: Algorithm,
     key: &[u8],
-) -> usize
+) -> Option<usize>
     requires { (length name.now ≤ 255) × (length old.now ≤ 255) }
     ensures { Replied (renewal_octets id name.now g inception expiration old.now old_algorithm key.now)
         buf.old buf.new result }
 {
     if 65535 < key.len() {
-        return 0;
+        return None;
     }
     let n = name.len() + name.len() + 68 + old.len() + key.len();
     if 65535 < n {
-        return 0;
+        return None;
     }
     if buf.len() < n {
-        return 0;
+        return None;
     }
     let a = request_front(
         buf,
@@ -135,10 +135,10 @@ pub fn renewal(
         old.len() + 13,
     );
     let b = old_key(buf, a, old, old_algorithm);
-    octets::all_into(buf, b, key)
+    Some(octets::all_into(buf, b, key))
 }
 
-// An adoption (mode 4100). 0 where there is no room.
+// An adoption (mode 4100). None where there is no room.
 pub fn adoption(
     buf: &mut [u8],
     id: u16,
@@ -148,13 +148,13 @@ pub fn adoption(
     expiration: u32,
     old: &[u8],
     old_algorithm: Algorithm,
-) -> usize
+) -> Option<usize>
     requires { (length name.now ≤ 255) × (length old.now ≤ 255) }
     ensures { Replied (adoption_octets id name.now g inception expiration old.now old_algorithm)
         buf.old buf.new result }
 {
     if buf.len() < name.len() + name.len() + 68 + old.len() {
-        return 0;
+        return None;
     }
     let a = request_front(
         buf,
@@ -167,16 +167,16 @@ pub fn adoption(
         4100,
         old.len() + 13,
     );
-    old_key(buf, a, old, old_algorithm)
+    Some(old_key(buf, a, old, old_algorithm))
 }
 
-// A deletion (mode 5): no times, and no other data. 0 where there is no room.
-pub fn deletion(buf: &mut [u8], id: u16, name: &[u8], g: Algorithm) -> usize
+// A deletion (mode 5): no times, and no other data. None where there is no room.
+pub fn deletion(buf: &mut [u8], id: u16, name: &[u8], g: Algorithm) -> Option<usize>
     requires { length name.now ≤ 255 }
     ensures { Replied (deletion_octets id name.now g) buf.old buf.new result }
 {
     if buf.len() < name.len() + name.len() + 55 {
-        return 0;
+        return None;
     }
-    request_front(buf, id, 1, name, g, 0, 0, 5, 0)
+    Some(request_front(buf, id, 1, name, g, 0, 0, 5, 0))
 }

@@ -8,12 +8,10 @@ use lib.Dec.{eqb}
 use lib.ListN.{length, take, get_or}
 use borrow.Author.Tests.{eq-eqb, ne_eqb}
 use Rattle.model.specs.declared.Algorithm.{Algorithm}
-use Rattle.model.specs.declared.Named.{Named}
-use Rattle.model.specs.declared.Named.TheVariants.{Known, Unknown}
+use Rattle.std.specs.Prelude.{Option, Some, None, Result, Ok, Err}
 use Rattle.model.specs.declared.ResolverKey.{ResolverKey}
 use Rattle.model.specs.declared.Holding.{Holding}
 use Rattle.model.specs.declared.Asking.{Asking}
-use Rattle.model.specs.declared.OpenRequest.TheVariants.{Nothing as NoRequest, Sent}
 use Rattle.model.specs.declared.Resolver.{Resolver}
 use Rattle.model.specs.declared.Heard.{Heard}
 use Rattle.model.specs.Octets.{u16_at, stops}
@@ -31,40 +29,39 @@ use Rattle.tsig.specs.declared.Signer.{Signer}
 use Rattle.tsig.specs.declared.Signer.TheVariants.{Nobody, Ill, Key}
 use Rattle.tsig.specs.Signature.{tsig_from}
 use Rattle.contents.specs.declared.Contents.{Contents}
-use Rattle.contents.specs.declared.Reading.{Reading}
-use Rattle.contents.specs.declared.Reading.TheVariants.{Size, Broken, Whole}
+use Rattle.contents.specs.declared.Unread.{Unread}
+use Rattle.contents.specs.declared.Unread.TheVariants.{Size, Broken}
 use Rattle.contents.specs.Contents.{ContentsRead, ReadAs}
 use Rattle.answers.specs.declared.AnswerFields.{AnswerFields}
-use Rattle.answers.specs.declared.AnswerFound.{AnswerFound}
-use Rattle.answers.specs.declared.AnswerFound.TheVariants.{Nothing, One}
 use Rattle.answers.specs.Answer.{answer_from, shown, FoundFits, AnswerRead}
 use Rattle.resolver_replies.specs.Hearing.{key_from, offering, AnswerMoves, Accepts, Hears, HearsSigned, HearsAwaited}
+use Rattle.answers.specs.declared.AnswerFound.{AnswerFound}
 
 -- ── What a TKEY moves ───────────────────────────────────────────────────────────────────────────────────────────────
 
 -- the algorithm's name is x, read as d
-module _ (s : Resolver) (t : TkeyAnswer) (x d : List ℕ) (here : d ≡ x) (n : Named) (is : n ≡ algorithm_named d) where
+module _ (s : Resolver) (t : TkeyAnswer) (x d : List ℕ) (here : d ≡ x) (n : Option Algorithm) (is : n ≡ algorithm_named d) where
   named : algorithm_named x ≡ n
   named = sym (is ∙ ap algorithm_named here)
 
-  pub grants_none : n ≡ Unknown → s ≡ offered_by s t (algorithm_named x)
+  pub grants_none : n ≡ None → s ≡ offered_by s t (algorithm_named x)
   grants_none e = rw (named, e) refl
 
-  pub grants : (g : Algorithm) → n ≡ Known g → (k : ResolverKey) → k ≡ key_from t.name g t.inception t.expiration
+  pub grants : (g : Algorithm) → n ≡ Some g → (k : ResolverKey) → k ≡ key_from t.name g t.inception t.expiration
       → (r : Resolver) → r ≡ offering s k → r ≡ offered_by s t (algorithm_named x)
   grants g e k f r h = h ∙ rw (named, e, f) refl
 
 pub renews : (s : Resolver) (t : TkeyAnswer) (h : Holding) → s.holding ≡ h → renewed_in h s t ≡ renewed_in s.holding s t
 renews s t h e = ap (λ (x : Holding). renewed_in x s t) (sym e)
 
-pub by_fits : (m : List ℕ) (f : AnswerFound) (n : ℕ) (t : AnswerFields) → f ≡ One n t → FoundFits m f → (n ≤ 255) × Within m t.algorithm
-by_fits m f n t e h = let g : FoundFits m (One n t) = rw e at h in (g.0, g.1.algorithm)
+pub by_fits : (m : List ℕ) (f : Option AnswerFound) (n : ℕ) (t : AnswerFields) → f ≡ Some (record { name = n; fields = t }) → FoundFits m f → (n ≤ 255) × Within m t.algorithm
+by_fits m f n t e h = let g : FoundFits m (Some (record { name = n; fields = t })) = rw e at h in (g.0, g.1.algorithm)
 
-module _ (asking : Asking) (s : Resolver) (m owner : List ℕ) (f : AnswerFound) where
-  pub by_none : f ≡ Nothing → s ≡ moved_by asking s (shown m owner f)
+module _ (asking : Asking) (s : Resolver) (m owner : List ℕ) (f : Option AnswerFound) where
+  pub by_none : f ≡ None → s ≡ moved_by asking s (shown m owner f)
   by_none e = rw e refl
 
-  module _ (n : ℕ) (t : AnswerFields) (e : f ≡ One n t) where
+  module _ (n : ℕ) (t : AnswerFields) (e : f ≡ Some (record { name = n; fields = t })) where
     module _ (b : Bool) (is : b ≡ is_mode asking t.mode) where
       pub by_mode : b ≡ false → s ≡ moved_by asking s (shown m owner f)
       by_mode h = rw (e, sym is ∙ h) refl
@@ -77,7 +74,7 @@ module _ (asking : Asking) (s : Resolver) (m owner : List ℕ) (f : AnswerFound)
         by_moves k r i = i ∙ rw (e, sym is ∙ h, eq-eqb t.error 0 k) refl
 
 pub answer_moves : (s : Resolver) (asking : Asking) (m : List ℕ) (end : ℕ) (k : Kept) → AnswersRead m end k
-    → (owner : List ℕ) (f : AnswerFound) → AnswerRead m k owner f
+    → (owner : List ℕ) (f : Option AnswerFound) → AnswerRead m k owner f
     → (r : Resolver) → r ≡ moved_by asking s (shown m owner f) → AnswerMoves s asking m end r
 unfolding only_answer
 answer_moves s asking m end k a owner f b r e = record {
@@ -132,11 +129,11 @@ module _ (s : Resolver) (asking : Asking) (good : Bool) (m : List ℕ) (end : �
     by_signed v i = record { says = λ q w. i.says q w (tsig_from m (name_standing m place) t) refl ∙ rw (h, v) refl }
 
 module _ (s : Resolver) (good : Bool) (m : List ℕ) (end : ℕ) (response : Bool) (g : Signer) (r : Heard) where
-  pub lost : s.awaited ≡ NoRequest → r ≡ unheard s 1 → HearsAwaited s good m end response g r
+  pub lost : s.awaited ≡ None → r ≡ unheard s 1 → HearsAwaited s good m end response g r
   unfolding LOST
   lost h i = record { says = λ q w e. i ∙ rw h refl }
 
-  module _ (id : ℕ) (asking : Asking) (h : s.awaited ≡ Sent id asking) (x : ℕ) (is : x ≡ u16_at m 0) where
+  module _ (id : ℕ) (asking : Asking) (h : s.awaited ≡ Some (record { id = id; asking = asking })) (x : ℕ) (is : x ≡ u16_at m 0) where
     pub wrong_id : (x ≡ id → ⊥) → r ≡ unheard s 2 → HearsAwaited s good m end response g r
     unfolding WRONGID
     wrong_id k i = record { says = λ q w e. i ∙ rw (h, w.id ∙ sym is, ne_eqb x id k) refl }
@@ -144,21 +141,18 @@ module _ (s : Resolver) (good : Bool) (m : List ℕ) (end : ℕ) (response : Boo
     pub right_id : x ≡ id → HearsSigned s asking good m end response g r → HearsAwaited s good m end response g r
     right_id k i = record { says = λ q w e. i.says q w ∙ rw (h, w.id ∙ sym is, eq-eqb x id k, e) refl }
 
-module _ (s : Resolver) (good : Bool) (m : List ℕ) (o : Reading) (q : ReadAs m o) where
-  pub bad_size : o ≡ Size → (r : Heard) → r ≡ unheard s 4 → r ≡ read_reply s good m
+module _ (s : Resolver) (good : Bool) (m : List ℕ) (o : Result Contents Unread) (q : ReadAs m o) where
+  pub unread : (u : Unread) → o ≡ Err u → (r : Heard) → r ≡ unheard s 4 → r ≡ read_reply s good m
   unfolding read_reply FORMAT
-  bad_size e r i = i ∙ rw (subst (ReadAs m) e q) refl
+  unread Size e r i = i ∙ rw (subst (ReadAs m) e q) refl
+  unread (Broken place) e r i = let x : (size_ok m ≡ true) × (read_message m ≡ stops place) = subst (ReadAs m) e q in i ∙ rw (x.0, x.1) refl
 
-  pub ill_formed : (place : ℕ) → o ≡ Broken place → (r : Heard) → r ≡ unheard s 4 → r ≡ read_reply s good m
-  unfolding read_reply FORMAT
-  ill_formed place e r i = let x : (size_ok m ≡ true) × (read_message m ≡ stops place) = subst (ReadAs m) e q in i ∙ rw (x.0, x.1) refl
-
-  pub well_formed_lem : (c : Contents) → o ≡ Whole c → (r : Heard) → HearsAwaited s good m c.end c.response c.signer r → r ≡ read_reply s good m
+  pub well_formed_lem : (c : Contents) → o ≡ Ok c → (r : Heard) → HearsAwaited s good m c.end c.response c.signer r → r ≡ read_reply s good m
   unfolding read_reply
   well_formed_lem c e r i =
       let x : ContentsRead m c = subst (ReadAs m) e q in
       i.says x.message (record { says = x.says; after = x.after; within = x.within; octets = x.octets; id = x.id; responds = x.response }) x.signing
       ∙ rw (x.sized, x.says) refl
 
-pub whole_from : (m : List ℕ) {o : Reading} {c : Contents} → ReadAs m o → o ≡ Whole c → 12 ≤ length m
+pub whole_from : (m : List ℕ) {o : Result Contents Unread} {c : Contents} → ReadAs m o → o ≡ Ok c → 12 ≤ length m
 whole_from m {c = c} q e = let x : ContentsRead m c = subst (ReadAs m) e q in omega arith

@@ -10,8 +10,7 @@ ghost use Rattle.answers.specs.Answer.{answer_from, shown, FoundFits};
 ghost use Rattle.resolver_replies.specs.Hearing.{key_from, offering, adopting, AnswerMoves, Accepts, Hears, HearsSigned, HearsAwaited};
 
 use answers::{AnswerFields, AnswerFound};
-use contents::Reading;
-use model::{Algorithm, Asking, Heard, Holding, Named, OpenRequest, Resolver, ResolverKey};
+use model::{Algorithm, Asking, Heard, Holding, OpenRequest, Resolver, ResolverKey};
 use tsig::Signer;
 
 // ── What a reply moves ──────────────────────────────────────────────────────────────────────────────────────────────
@@ -22,7 +21,7 @@ fn close_request(s: Resolver) -> Resolver
     let holding = s.holding;
     let adopted = s.adopted;
     let offered = s.offered;
-    let awaited = OpenRequest::Nothing;
+    let awaited = None;
     Resolver {
         holding,
         adopted,
@@ -85,13 +84,13 @@ fn offer_granted(
 {
     let span = fields.algorithm;
     match names::algorithm_named(records::part_of(m, span)) {
-        Named::Known(algorithm) => {
+        Some(algorithm) => {
             let inception = fields.inception;
             let expiration = fields.expiration;
             let key = key_from(owner, n, algorithm, inception, expiration);
             offer(s, key)
         }
-        Named::Unknown => s,
+        None => s,
     }
 }
 
@@ -191,14 +190,14 @@ fn moved_by(
     s: Resolver,
     m: &[u8],
     owner: &[u8; 255],
-    found: AnswerFound,
+    found: Option<AnswerFound>,
 ) -> Resolver
     requires { FoundFits m.now found }
     ensures { result ≡ moved_by asking s (shown m.now owner.now found) }
 {
     match found {
-        AnswerFound::Nothing => s,
-        AnswerFound::One { name, fields } => {
+        None => s,
+        Some(AnswerFound { name, fields }) => {
             if !is_mode(asking, fields.mode) {
                 return s;
             }
@@ -310,8 +309,8 @@ fn hear_awaited(
 {
     let awaited = s.awaited;
     match awaited {
-        OpenRequest::Nothing => refuse_reply(s, 1),
-        OpenRequest::Sent { id, asking } => {
+        None => refuse_reply(s, 1),
+        Some(OpenRequest { id, asking }) => {
             let answered = records::id(m) as u16;
             if answered != id {
                 return refuse_reply(s, 2);
@@ -326,9 +325,8 @@ pub fn read_reply(s: Resolver, good: bool, m: &[u8]) -> Heard
     ensures { result ≡ read_reply s good m.now }
 {
     match contents::read(m) {
-        Reading::Size => refuse_reply(s, 4),
-        Reading::Broken { place: _ } => refuse_reply(s, 4),
-        Reading::Whole(c) => {
+        Err(_) => refuse_reply(s, 4),
+        Ok(c) => {
             let signer = c.signer;
             hear_awaited(s, good, m, c.end, c.response, signer)
         }

@@ -2,10 +2,10 @@
 use Prim.Native.Nat.{ℕ, ◌≤◌, ◌<◌}
 use mathlib.Core.Path.{◌≡◌, refl, sym, ◌∙◌}
 use mathlib.Core.Bool.{Bool, true, false, cond, not}
-use mathlib.Core.Option.{none, some}
+use Rattle.std.specs.Prelude.{Option, None, Some}
 use mathlib.Core.List.{List, [], ◌∷◌}
 use native.Mathlib.Omega.{arith}
-use borrow.Author.Tests.{ltb-true, ltb-false, eq-eqb, ne_eqb, not-true, not-false}
+use borrow.Author.Tests.{ltb-true, ltb-false, not-true, not-false}
 use lib.Dec.{ltb}
 use lib.ListN.{length, take}
 use lib.Seq.{length-take-le, take_all}
@@ -14,16 +14,12 @@ use Rattle.model.specs.declared.ResolverKey.{ResolverKey}
 use Rattle.model.specs.declared.Asking.TheVariants as Asking
 use Rattle.model.specs.declared.Resolver.{Resolver}
 use Rattle.model.specs.declared.SignWith.{SignWith}
-use Rattle.model.specs.declared.SignWith.TheVariants as SignWith
 use Rattle.model.specs.declared.Sending.{Sending}
 use Rattle.model.specs.Octets.{put}
 use Rattle.model.specs.Names.{wire_name}
-use Rattle.model.specs.Checks.{check}
-use Rattle.model.specs.Calls.{room_for}
 use Rattle.model.specs.Tkey.{is_key_record}
 use Rattle.model.specs.Resolver.{NOKEY, ROOM, name_of, adopted_in, offered_in, adopted_key, offered_key, opened, unwritten, sent, renewal_octets, adoption_octets, deletion_octets, turn, root_or, written_renewal, written_adoption, written_deletion, written_into}
 use Rattle.replies.specs.Parts.{Replied}
-use Rattle.requests.proofs.Laws.{renewal_length, adoption_length, deletion_length}
 use Rattle.resolver_requests.specs.Sent.{Sent, sent_by, name_size}
 
 -- ── Names ───────────────────────────────────────────────────────────────────────────────────────────────────────────
@@ -56,31 +52,23 @@ module _ (s : Resolver) where
   unfolding unwritten NOKEY written_into put
   refused b r e = record { result = e; left = refl }
 
-  went_by : (octets b b' : List ℕ) (n : ℕ) (signer : SignWith) (after : Resolver) (t : Bool) → 0 < length octets
-      → n ≡ cond t (length octets) 0 → b' ≡ cond t (put octets b) b
-      → Sent
-      (check (unwritten s) ROOM t (record { result = record { number = 0; length = length octets; signer = signer; state = after }; octets = octets }))
-      b b' (sent_by s n signer after)
-  unfolding sent_by unwritten ROOM written_into put
-  went_by octets b b' n signer after true p e l = record { result = rw (ne_eqb n 0 (λ z. omega arith), e) refl; left = l }
-  went_by octets b b' n signer after false p e l = record { result = rw (eq-eqb n 0 e) refl; left = l }
-
-  went : (octets b b' : List ℕ) (n : ℕ) (signer : SignWith) (after : Resolver) (r : Sending) → 0 < length octets → Replied octets b b' n
+  went : (octets b b' : List ℕ) (n : Option ℕ) (signer : SignWith) (after : Resolver) (r : Sending) → Replied octets b b' n
       → r ≡ sent_by s n signer after → Sent (sent s (length b) octets signer after) b b' r
-  unfolding sent
-  went octets b b' n signer after r p w e = rw e (went_by octets b b' n signer after (room_for (length b) octets) p w.size w.left)
+  unfolding sent sent_by unwritten ROOM written_into put
+  went octets b b' None signer after r w e = let x = w.says in rw (e, x.0) (record { result = refl; left = x.1 })
+  went octets b b' (Some n) signer after r w e = let x = w.says in rw (e, x.0) (record { result = rw x.1 refl; left = x.2 })
 
 root_by : (xs : List ℕ) → 0 < length xs → root_or xs ≡ xs
 root_by [] h = absurd (omega arith)
 root_by (x ∷ xs) h = refl
 
 -- a deletion and an adoption, by the answer t, whether an adopted key can be asked for
-module _ (s : Resolver) (t : Bool) (has : adopted_in s.holding s.adopted ≡ cond t (some s.adopted) none) where
-  none_adopted : not t ≡ true → adopted_key s ≡ none
+module _ (s : Resolver) (t : Bool) (has : adopted_in s.holding s.adopted ≡ cond t (Some s.adopted) None) where
+  none_adopted : not t ≡ true → adopted_key s ≡ None
   unfolding adopted_key
   none_adopted h = has ∙ rw (not-true t h) refl
 
-  one_adopted : not t ≡ false → adopted_key s ≡ some s.adopted
+  one_adopted : not t ≡ false → adopted_key s ≡ Some s.adopted
   unfolding adopted_key
   one_adopted h = has ∙ rw (not-false t h) refl
 
@@ -89,27 +77,26 @@ module _ (s : Resolver) (t : Bool) (has : adopted_in s.holding s.adopted ≡ con
     unfolding written_deletion
     deletion_refused h e = rw (none_adopted h) (refused s b r e)
 
-    pub deletion_sent : not t ≡ false → (b' : List ℕ) (n : ℕ) (after : Resolver)
+    pub deletion_sent : not t ≡ false → (b' : List ℕ) (n : Option ℕ) (after : Resolver)
         → Replied (deletion_octets id (name_of s.adopted) s.adopted.algorithm) b b' n
         → after ≡ opened s id Asking.Deletion s.offered_signs
         → r ≡ sent_by s n SignWith.AdoptedKey after
         → Sent (written_deletion s id (length b)) b b' r
     unfolding written_deletion
     deletion_sent h b' n after w o e =
-        let l = deletion_length id (name_of s.adopted) s.adopted.algorithm in
-        rw (one_adopted h, ← o) (went s (deletion_octets id (name_of s.adopted) s.adopted.algorithm) b b' n SignWith.AdoptedKey after r (omega arith) w e)
+        rw (one_adopted h, ← o) (went s (deletion_octets id (name_of s.adopted) s.adopted.algorithm) b b' n SignWith.AdoptedKey after r w e)
 
     pub adoption_refused : not t ≡ true → r ≡ (unwritten s 6).result → Sent (written_adoption s id (length b)) b b r
     unfolding written_adoption
     adoption_refused h e = rw (none_adopted h) (refused s b r e)
 
     -- by the answer u, whether an offered key can be
-    module _ (h : not t ≡ false) (u : Bool) (offers : offered_in s.holding s.offered ≡ cond u (some s.offered) none) where
-      none_offered : not u ≡ true → offered_key s ≡ none
+    module _ (h : not t ≡ false) (u : Bool) (offers : offered_in s.holding s.offered ≡ cond u (Some s.offered) None) where
+      none_offered : not u ≡ true → offered_key s ≡ None
       unfolding offered_key
       none_offered f = offers ∙ rw (not-true u f) refl
 
-      one_offered : not u ≡ false → offered_key s ≡ some s.offered
+      one_offered : not u ≡ false → offered_key s ≡ Some s.offered
       unfolding offered_key
       one_offered f = offers ∙ rw (not-false u f) refl
 
@@ -117,7 +104,7 @@ module _ (s : Resolver) (t : Bool) (has : adopted_in s.holding s.adopted ≡ con
       unfolding written_adoption
       adoption_unoffered f e = rw (one_adopted h, none_offered f) (refused s b r e)
 
-      pub adoption_sent : not u ≡ false → (b' : List ℕ) (n : ℕ) (signer : SignWith) (after : Resolver)
+      pub adoption_sent : not u ≡ false → (b' : List ℕ) (n : Option ℕ) (signer : SignWith) (after : Resolver)
           → Replied
           (adoption_octets id (name_of s.offered) s.offered.algorithm s.offered.inception s.offered.expiration (name_of s.adopted) s.adopted.algorithm)
           b b' n
@@ -129,9 +116,8 @@ module _ (s : Resolver) (t : Bool) (has : adopted_in s.holding s.adopted ≡ con
       adoption_sent f b' n signer after w o k e =
           let a = s.adopted in
           let q = s.offered in
-          let l = adoption_length id (name_of q) q.algorithm q.inception q.expiration (name_of a) a.algorithm in
           rw (one_adopted h, one_offered f, ← o, ← k)
-          (went s (adoption_octets id (name_of q) q.algorithm q.inception q.expiration (name_of a) a.algorithm) b b' n signer after r (omega arith) w e)
+          (went s (adoption_octets id (name_of q) q.algorithm q.inception q.expiration (name_of a) a.algorithm) b b' n signer after r w e)
 
 -- a renewal
 module _ (s : Resolver) (id : ℕ) (name : List ℕ) (g : Algorithm) (inception expiration : ℕ) (key b : List ℕ) (r : Sending) where
@@ -155,12 +141,12 @@ module _ (s : Resolver) (id : ℕ) (name : List ℕ) (g : Algorithm) (inception 
     unfolding written_renewal
     renewal_no_key w f e = rw (root_by name given, w, f) (refused s b r e)
 
-    module _ (w : wire_name name ≡ true) (k : is_key_record key ≡ true) (t : Bool) (has : adopted_in s.holding s.adopted ≡ cond t (some s.adopted) none) where
+    module _ (w : wire_name name ≡ true) (k : is_key_record key ≡ true) (t : Bool) (has : adopted_in s.holding s.adopted ≡ cond t (Some s.adopted) None) where
       pub renewal_refused : not t ≡ true → r ≡ (unwritten s 6).result → Sent (written_renewal s id name g inception expiration key (length b)) b b r
       unfolding written_renewal
       renewal_refused h e = rw (root_by name given, w, k, none_adopted s t has h) (refused s b r e)
 
-      pub renewal_sent : not t ≡ false → (b' : List ℕ) (n : ℕ) (after : Resolver)
+      pub renewal_sent : not t ≡ false → (b' : List ℕ) (n : Option ℕ) (after : Resolver)
           → Replied (renewal_octets id name g inception expiration (name_of s.adopted) s.adopted.algorithm key) b b' n
           → after ≡ opened s id Asking.Renewal s.offered_signs
           → r ≡ sent_by s n SignWith.AdoptedKey after
@@ -168,6 +154,5 @@ module _ (s : Resolver) (id : ℕ) (name : List ℕ) (g : Algorithm) (inception 
       unfolding written_renewal
       renewal_sent h b' n after y o e =
           let a = s.adopted in
-          let l = renewal_length id name g inception expiration (name_of a) a.algorithm key in
           rw (root_by name given, w, k, one_adopted s t has h, ← o)
-          (went s (renewal_octets id name g inception expiration (name_of a) a.algorithm key) b b' n SignWith.AdoptedKey after r (omega arith) y e)
+          (went s (renewal_octets id name g inception expiration (name_of a) a.algorithm key) b b' n SignWith.AdoptedKey after r y e)

@@ -1,5 +1,5 @@
 -- What a writing call of the resolver leaves, against model's Writing. Assumes nothing.
-use Rattle.std.specs.Prelude.{ℕ, ◌≡◌, cond, List, ltb, eqb}
+use Rattle.std.specs.Prelude.{ℕ, ◌≡◌, cond, List, ltb, Option, None, Some}
 use Rattle.model.specs.declared.Resolver.{Resolver}
 use Rattle.model.specs.declared.SignWith.{SignWith}
 use Rattle.model.specs.declared.Sending.{Sending}
@@ -10,9 +10,10 @@ pub record Sent (w : Writing) (entry exit : List ℕ) (r : Sending) : Type 0 whe
   pub result : r ≡ w.result
   pub left : exit ≡ written_into w entry
 
--- What it returns, by the length that the writer of its request answered: 0, no room.
-unfoldable pub sent_by : Resolver → ℕ → SignWith → Resolver → Sending
-sent_by s n signer after = cond (eqb n 0) (unwritten s ROOM).result record { number = 0; length = n; signer = signer; state = after }
+-- What it returns, by the length that the writer of its request answered; or there was no room.
+unfoldable pub sent_by : Resolver → Option ℕ → SignWith → Resolver → Sending
+sent_by s None signer after = (unwritten s ROOM).result
+sent_by s (Some n) signer after = record { number = 0; length = n; signer = signer; state = after }
 
 -- How many octets of its array hold a key's name: all 255 where its length says more.
 abbrev pub name_size : ℕ → ℕ

@@ -3,7 +3,6 @@
 #![tactic(auto)]
 
 ghost use Rattle.std.specs.Prelude.{◌≡◌, cond, ◌≤◌, ◌<◌, length};
-ghost use Rattle.std.proofs.Math.Option.{some, none};
 ghost use Rattle.model.specs.Names.{wire_name};
 ghost use Rattle.model.specs.Resolver.{name_of, adopted_in, offered_in, opened as openedBy, noted, unwritten, turn, renewal_octets, adoption_octets, deletion_octets, written_renewal, written_adoption, written_deletion};
 ghost use Rattle.replies.specs.Parts.{Replied};
@@ -30,7 +29,7 @@ fn is_usable(k: ResolverKey) -> bool
 }
 
 fn has_adopted(holding: Holding, k: ResolverKey) -> bool
-    ensures { adopted_in holding k ≡ cond result (some k) none }
+    ensures { adopted_in holding k ≡ cond result (Some k) None }
 {
     match holding {
         Holding::Nothing => false,
@@ -40,7 +39,7 @@ fn has_adopted(holding: Holding, k: ResolverKey) -> bool
 }
 
 fn has_offered(holding: Holding, k: ResolverKey) -> bool
-    ensures { offered_in holding k ≡ cond result (some k) none }
+    ensures { offered_in holding k ≡ cond result (Some k) None }
 {
     match holding {
         Holding::Nothing => false,
@@ -74,23 +73,23 @@ fn opened(s: Resolver, id: u16, asking: Asking, signs: bool) -> Resolver
         holding,
         adopted,
         offered,
-        awaited: OpenRequest::Sent { id, asking },
+        awaited: Some(OpenRequest { id, asking }),
         offered_signs: signs,
     }
 }
 
 // What is returned, by the length that the writer of the request answered: 0, no room. `after` is the state with the request open.
-fn sent_by(s: Resolver, n: usize, signer: SignWith, after: Resolver) -> Sending
+fn sent_by(s: Resolver, n: Option<usize>, signer: SignWith, after: Resolver) -> Sending
     ensures { result ≡ sent_by s n signer after }
 {
-    if n == 0 {
-        return unsent(s, 5);
-    }
-    Sending {
-        number: 0,
-        length: n as u64,
-        signer,
-        state: after,
+    match n {
+        None => unsent(s, 5),
+        Some(length) => Sending {
+            number: 0,
+            length: length as u64,
+            signer,
+            state: after,
+        },
     }
 }
 
@@ -106,7 +105,7 @@ fn renewal_of(
     expiration: u32,
     key: &[u8],
     out: &mut [u8],
-) -> usize
+) -> Option<usize>
     requires { length name.now ≤ 255 }
     ensures { Replied (renewal_octets id name.now algorithm inception expiration (name_of a) a.algorithm key.now)
         out.old out.new result }
@@ -184,7 +183,7 @@ pub fn write_renewal(
 // ── Adoption ────────────────────────────────────────────────────────────────────────────────────────────────────────
 
 // The octets of an adoption of the key o in the place of the key a.
-fn adoption_of(o: ResolverKey, a: ResolverKey, id: u16, out: &mut [u8]) -> usize
+fn adoption_of(o: ResolverKey, a: ResolverKey, id: u16, out: &mut [u8]) -> Option<usize>
     ensures { Replied (adoption_octets id (name_of o) o.algorithm o.inception o.expiration (name_of a) a.algorithm)
         out.old out.new result }
 {
@@ -239,7 +238,7 @@ pub fn write_adoption(s: Resolver, id: u16, out: &mut [u8]) -> Sending
 // ── Deletion ────────────────────────────────────────────────────────────────────────────────────────────────────────
 
 // The octets of a deletion of the key a.
-fn deletion_of(a: ResolverKey, id: u16, out: &mut [u8]) -> usize
+fn deletion_of(a: ResolverKey, id: u16, out: &mut [u8]) -> Option<usize>
     ensures { Replied (deletion_octets id (name_of a) a.algorithm) out.old out.new result }
 {
     let n = name_size(a.length);

@@ -4,16 +4,17 @@ use mathlib.Core.Path.{◌≡◌, refl}
 use mathlib.Core.Bool.{Bool, true, false}
 use mathlib.Core.List.{List, [], ◌∷◌, ◌++◌}
 use lib.ListN.{replicate}
+use Rattle.std.specs.Prelude.{Option, Some, None}
 use Rattle.model.specs.declared.Algorithm.{Algorithm}
 use Rattle.model.specs.declared.Algorithm.TheVariants.{Sha256, Sha384, Sha512}
 use Rattle.model.specs.declared.ResolverKey.{ResolverKey}
 use Rattle.model.specs.declared.Holding.{Holding}
 use Rattle.model.specs.declared.Asking.TheVariants.{Ordinary, Renewal, Adoption, Deletion}
-use Rattle.model.specs.declared.OpenRequest.{OpenRequest}
 use Rattle.model.specs.declared.Resolver.{Resolver}
 use Rattle.model.specs.Octets.{part}
 use Rattle.model.specs.Names.{algorithm_numbered}
 use Rattle.resolver_state.specs.State.{key_in, holding_by, request_by, resolver_of, state_words, state_names}
+use Rattle.model.specs.declared.OpenRequest.{OpenRequest}
 
 unfoldable open_all : ℕ → ℕ
 unfolding part algorithm_numbered key_in holding_by request_by resolver_of state_words state_names
@@ -32,7 +33,7 @@ octets = first ++ second
 abbrev key : List ℕ → Algorithm → ℕ → ℕ → ResolverKey
 key name g inception expiration = record { name = name; length = 5; algorithm = g; inception = inception; expiration = expiration }
 
-abbrev state : Holding → Algorithm → Algorithm → OpenRequest → Bool → Resolver
+abbrev state : Holding → Algorithm → Algorithm → Option OpenRequest → Bool → Resolver
 state holding g h awaited signs =
     record { holding = holding; adopted = key first g 1000 1600; offered = key second h 1200 1800; awaited = awaited; offered_signs = signs }
 
@@ -42,7 +43,7 @@ words held g h asking id signs = held ∷ 5 ∷ g ∷ 1000 ∷ 1600 ∷ 5 ∷ h 
 
 -- Both keys, an adoption open, the offered key's turn; as it is stored.
 abbrev both : Resolver
-both = state Holding.AdoptedAndOffered Sha256 Sha384 (OpenRequest.Sent 4660 Adoption) true
+both = state Holding.AdoptedAndOffered Sha256 Sha384 (Some (record { id = 4660; asking = Adoption })) true
 
 pub shown : resolver_of (words 2 256 384 3 4660 1) octets ≡ both
 unfolding open_all
@@ -65,11 +66,11 @@ held = (refl, refl, refl, refl, refl, refl)
 
 -- The open request; an ID is read modulo 2^16.
 pub awaited :
-    ((resolver_of (words 2 256 384 0 7 0) octets).awaited ≡ OpenRequest.Nothing)
-    × ((resolver_of (words 2 256 384 1 7 0) octets).awaited ≡ OpenRequest.Sent 7 Ordinary)
-    × ((resolver_of (words 2 256 384 2 65535 0) octets).awaited ≡ OpenRequest.Sent 65535 Renewal)
-    × ((resolver_of (words 2 256 384 4 65537 0) octets).awaited ≡ OpenRequest.Sent 1 Deletion)
-    × ((resolver_of (words 2 256 384 5 7 0) octets).awaited ≡ OpenRequest.Nothing)
+    ((resolver_of (words 2 256 384 0 7 0) octets).awaited ≡ None)
+    × ((resolver_of (words 2 256 384 1 7 0) octets).awaited ≡ Some (record { id = 7; asking = Ordinary }))
+    × ((resolver_of (words 2 256 384 2 65535 0) octets).awaited ≡ Some (record { id = 65535; asking = Renewal }))
+    × ((resolver_of (words 2 256 384 4 65537 0) octets).awaited ≡ Some (record { id = 1; asking = Deletion }))
+    × ((resolver_of (words 2 256 384 5 7 0) octets).awaited ≡ None)
 unfolding open_all
 awaited = (refl, refl, refl, refl, refl)
 

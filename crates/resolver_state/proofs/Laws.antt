@@ -7,18 +7,19 @@ use native.Mathlib.Omega.{arith}
 use lib.Dec.{eqb}
 use lib.ListN.{length, take, drop_of_length-le}
 use lib.Seq.{take_at, drop_at, take_all}
+use Rattle.std.specs.Prelude.{Option, Some, None}
 use Rattle.model.specs.declared.Algorithm.{Algorithm}
 use Rattle.model.specs.declared.Algorithm.TheVariants.{Sha256, Sha384, Sha512}
-use Rattle.model.specs.declared.Named.TheVariants.{Known}
 use Rattle.model.specs.declared.Holding.{Holding}
+use Rattle.model.specs.declared.Asking.{Asking}
 use Rattle.model.specs.declared.Asking.TheVariants.{Ordinary, Renewal, Adoption, Deletion}
-use Rattle.model.specs.declared.OpenRequest.{OpenRequest}
 use Rattle.model.specs.declared.Resolver.{Resolver}
 use Rattle.model.specs.Octets.{put, part}
 use Rattle.model.specs.Names.{algorithm_numbered}
 use Rattle.octets.specs.Wrote.{Wrote}
 use Rattle.octets.proofs.Laws.{wrote_put}
-use Rattle.resolver_state.specs.State.{key_in, holding_by, request_by, resolver_of, number_of, holding_word, request_word, id_word, state_words, state_names, WordsStored, NamesStored, Stored}
+use Rattle.resolver_state.specs.State.{asking_word, key_in, holding_by, request_by, resolver_of, number_of, holding_word, request_word, id_word, state_words, state_names, WordsStored, NamesStored, Stored}
+use Rattle.model.specs.declared.OpenRequest.{OpenRequest}
 
 -- a buffer written over from its first octet to its last
 pub wrote_all : {xs b b' : List ℕ} {next : ℕ} → Wrote xs 0 b b' next → length b ≡ length xs → b' ≡ xs
@@ -27,7 +28,7 @@ wrote_all {xs} {b} w e =
     let h : length b ≤ length xs = omega arith in
     (wrote_put w).1 ∙ rw (drop_of_length-le b h, append-nil)
 
-algorithm_back : (g : Algorithm) → algorithm_numbered (number_of g) ≡ Known g
+algorithm_back : (g : Algorithm) → algorithm_numbered (number_of g) ≡ Some g
 unfolding algorithm_numbered
 algorithm_back Sha256 = refl
 algorithm_back Sha384 = refl
@@ -45,13 +46,17 @@ small n h = omega arith
 small_id : (n : ℕ) → n < 65536 → n % 65536 ≡ n
 small_id n h = omega arith
 
-request_back : (r : OpenRequest) → id_word r < 65536 → request_by (request_word r) (id_word r) ≡ r
+sent_back : (id : ℕ) (a : Asking) → id < 65536 → request_by (asking_word a) id ≡ Some (record { id = id; asking = a })
 unfolding request_by
-request_back OpenRequest.Nothing h = refl
-request_back (OpenRequest.Sent id Ordinary) h = rw (small_id id h) refl
-request_back (OpenRequest.Sent id Renewal) h = rw (small_id id h) refl
-request_back (OpenRequest.Sent id Adoption) h = rw (small_id id h) refl
-request_back (OpenRequest.Sent id Deletion) h = rw (small_id id h) refl
+sent_back id Ordinary h = rw (small_id id h) refl
+sent_back id Renewal h = rw (small_id id h) refl
+sent_back id Adoption h = rw (small_id id h) refl
+sent_back id Deletion h = rw (small_id id h) refl
+
+request_back : (r : Option OpenRequest) → id_word r < 65536 → request_by (request_word r) (id_word r) ≡ r
+unfolding request_by
+request_back None h = refl
+request_back (Some q) h = sent_back q.id q.asking h
 
 signs_back : (b : Bool) → eqb (cond b 1 0) 1 ≡ b
 signs_back true = refl

@@ -10,30 +10,28 @@
 --
 -- The adopted key's name lies in the octets 0 .. 254, the offered key's in 255 .. 509. Every content of words and octets is a state: times are read modulo
 -- 2^32, IDs modulo 2^16, and a key whose algorithm's word is none of the three is not held. Assumes nothing.
-use Rattle.std.specs.Prelude.{ℕ, ◌+◌, ◌%◌, ◌<◌, ◌≡◌, Bool, true, false, cond, List, [], ◌∷◌, ◌++◌, length, get_or, eqb}
+use Rattle.std.specs.Prelude.{ℕ, ◌+◌, ◌%◌, ◌<◌, ◌≡◌, Bool, true, false, cond, List, [], ◌∷◌, ◌++◌, length, get_or, eqb, Option, Some, None}
 use Rattle.model.specs.declared.Algorithm.{Algorithm}
 use Rattle.model.specs.declared.Algorithm.TheVariants.{Sha256, Sha384, Sha512}
-use Rattle.model.specs.declared.Named.{Named}
-use Rattle.model.specs.declared.Named.TheVariants.{Known, Unknown}
 use Rattle.model.specs.declared.ResolverKey.{ResolverKey}
 use Rattle.model.specs.declared.Holding.{Holding}
 use Rattle.model.specs.declared.Asking.{Asking}
 use Rattle.model.specs.declared.Asking.TheVariants.{Ordinary, Renewal, Adoption, Deletion}
-use Rattle.model.specs.declared.OpenRequest.{OpenRequest}
 use Rattle.model.specs.declared.Resolver.{Resolver}
 use Rattle.model.specs.Octets.{part}
 use Rattle.model.specs.Names.{algorithm_numbered}
+use Rattle.model.specs.declared.OpenRequest.{OpenRequest}
 
 -- ── What they show ──────────────────────────────────────────────────────────────────────────────────────────────────
 
-abbrev pub is_known : Named → Bool
-is_known (Known g) = true
-is_known Unknown = false
+abbrev pub is_known : Option Algorithm → Bool
+is_known (Some g) = true
+is_known None = false
 
 -- The algorithm of a key that is not held has no meaning.
-abbrev pub algorithm_or : Named → Algorithm
-algorithm_or (Known g) = g
-algorithm_or Unknown = Sha512
+abbrev pub algorithm_or : Option Algorithm → Algorithm
+algorithm_or (Some g) = g
+algorithm_or None = Sha512
 
 -- The key in the four words from the word i on, its name in the 255 octets from the place `at` on.
 unfoldable pub key_in : List ℕ → ℕ → List ℕ → ℕ → ResolverKey
@@ -56,13 +54,13 @@ holding_by tag adopted offered =
     Holding.Nothing
 
 -- The open request, by words 9 and 10.
-unfoldable pub request_by : ℕ → ℕ → OpenRequest
+unfoldable pub request_by : ℕ → ℕ → Option OpenRequest
 request_by tag id =
-    cond (eqb tag 1) (OpenRequest.Sent (id % 65536) Ordinary)
-    (cond (eqb tag 2) (OpenRequest.Sent (id % 65536) Renewal)
-    (cond (eqb tag 3) (OpenRequest.Sent (id % 65536) Adoption)
-    (cond (eqb tag 4) (OpenRequest.Sent (id % 65536) Deletion)
-    OpenRequest.Nothing)))
+    cond (eqb tag 1) (Some (record { id = (id % 65536); asking = Ordinary }))
+    (cond (eqb tag 2) (Some (record { id = (id % 65536); asking = Renewal }))
+    (cond (eqb tag 3) (Some (record { id = (id % 65536); asking = Adoption }))
+    (cond (eqb tag 4) (Some (record { id = (id % 65536); asking = Deletion }))
+    None)))
 
 -- THE VIEW: the state that the words w and the octets `names` show.
 unfoldable pub resolver_of : List ℕ → List ℕ → Resolver
@@ -94,13 +92,13 @@ asking_word Adoption = 3
 asking_word Deletion = 4
 
 -- Where no request is open, the words of one are 0.
-abbrev pub request_word : OpenRequest → ℕ
-request_word OpenRequest.Nothing = 0
-request_word (OpenRequest.Sent id asking) = asking_word asking
+abbrev pub request_word : Option OpenRequest → ℕ
+request_word None = 0
+request_word (Some q) = asking_word q.asking
 
-abbrev pub id_word : OpenRequest → ℕ
-id_word OpenRequest.Nothing = 0
-id_word (OpenRequest.Sent id asking) = id
+abbrev pub id_word : Option OpenRequest → ℕ
+id_word None = 0
+id_word (Some q) = q.id
 
 unfoldable pub state_words : Resolver → List ℕ
 state_words s =

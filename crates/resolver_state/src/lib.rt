@@ -5,19 +5,19 @@ ghost use Rattle.std.specs.Prelude.{◌≡◌, cond, ◌+◌, ◌%◌, ◌≤◌
 ghost use Rattle.model.specs.Names.{algorithm_numbered};
 ghost use Rattle.resolver_state.specs.State.{is_known, algorithm_or, key_in, holding_by, request_by, resolver_of, number_of, holding_word, asking_word, request_word, id_word, WordsStored, NamesStored, Stored};
 
-use model::{Algorithm, Asking, Holding, Named, OpenRequest, Resolver, ResolverKey};
+use model::{Algorithm, Asking, Holding, OpenRequest, Resolver, ResolverKey};
 
 // ── Reading ─────────────────────────────────────────────────────────────────────────────────────────────────────────
 
 // The algorithm with this number.
-pub fn algorithm_numbered(n: u64) -> Named
+pub fn algorithm_numbered(n: u64) -> Option<Algorithm>
     ensures { result ≡ algorithm_numbered n }
 {
     match n {
-        256 => Named::Known(Algorithm::Sha256),
-        384 => Named::Known(Algorithm::Sha384),
-        512 => Named::Known(Algorithm::Sha512),
-        _ => Named::Unknown,
+        256 => Some(Algorithm::Sha256),
+        384 => Some(Algorithm::Sha384),
+        512 => Some(Algorithm::Sha512),
+        _ => None,
     }
 }
 
@@ -25,8 +25,8 @@ fn is_known(n: u64) -> bool
     ensures { result ≡ is_known (algorithm_numbered n) }
 {
     match algorithm_numbered(n) {
-        Named::Known(_) => true,
-        Named::Unknown => false,
+        Some(_) => true,
+        None => false,
     }
 }
 
@@ -34,8 +34,8 @@ fn algorithm_or(n: u64) -> Algorithm
     ensures { result ≡ algorithm_or (algorithm_numbered n) }
 {
     match algorithm_numbered(n) {
-        Named::Known(g) => g,
-        Named::Unknown => Algorithm::Sha512,
+        Some(g) => g,
+        None => Algorithm::Sha512,
     }
 }
 
@@ -75,16 +75,16 @@ fn holding_by(tag: u64, adopted: bool, offered: bool) -> Holding
     }
 }
 
-fn sent(id: u64, asking: Asking) -> OpenRequest
-    ensures { result ≡ OpenRequest.Sent (id % 65536) asking }
+fn sent(id: u64, asking: Asking) -> Option<OpenRequest>
+    ensures { result ≡ Some (record { id = id % 65536; asking = asking }) }
 {
-    OpenRequest::Sent {
+    Some(OpenRequest {
         id: (id % 65536) as u16,
         asking,
-    }
+    })
 }
 
-fn request_by(tag: u64, id: u64) -> OpenRequest
+fn request_by(tag: u64, id: u64) -> Option<OpenRequest>
     ensures { result ≡ request_by tag id }
 {
     match tag {
@@ -92,7 +92,7 @@ fn request_by(tag: u64, id: u64) -> OpenRequest
         2 => sent(id, Asking::Renewal),
         3 => sent(id, Asking::Adoption),
         4 => sent(id, Asking::Deletion),
-        _ => OpenRequest::Nothing,
+        _ => None,
     }
 }
 
@@ -146,21 +146,21 @@ fn asking_word(asking: Asking) -> u64
     }
 }
 
-fn request_word(awaited: OpenRequest) -> u64
+fn request_word(awaited: Option<OpenRequest>) -> u64
     ensures { result ≡ request_word awaited }
 {
     match awaited {
-        OpenRequest::Nothing => 0,
-        OpenRequest::Sent { id: _, asking } => asking_word(asking),
+        None => 0,
+        Some(OpenRequest { id: _, asking }) => asking_word(asking),
     }
 }
 
-fn id_word(awaited: OpenRequest) -> u64
+fn id_word(awaited: Option<OpenRequest>) -> u64
     ensures { (result ≡ id_word awaited) × (result < 65536) }
 {
     match awaited {
-        OpenRequest::Nothing => 0,
-        OpenRequest::Sent { id, asking: _ } => id as u64,
+        None => 0,
+        Some(OpenRequest { id, asking: _ }) => id as u64,
     }
 }
 

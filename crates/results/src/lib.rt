@@ -23,11 +23,9 @@ pub fn bare(number: u64, pair: u64, serial: u64, place: u64) -> Answer
 }
 
 // In two's complement.
+#[tactic(auto, unfolding(crate::specs::Words::twos_complement))]
 pub fn skew_word(skew: i64) -> u64
     ensures { result ≡ twos_complement skew }
 {
-    if 0 <= skew {
-        return skew as u64;
-    }
-    0xffff_ffff_ffff_ffff - (-1 - skew) as u64
+    skew.cast_unsigned()
 }

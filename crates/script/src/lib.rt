@@ -1,466 +1,483 @@
-// A line of the replay script (docs/SCRIPT.md), read into one command: which call it is, its numbers, and its octets as spans of one arena. What a line means is
-// tested against the second reader and not proved: the contracts say that reading a line is safe and ends.
+// A line of the replay script (docs/SCRIPT.md), read into one command, whose octets stand in an arena. What a line means is tested against the second reader and
+// not proved: the contracts say that reading a line is safe and ends.
 #![tactic(auto)]
 
-ghost use Rattle.std.specs.Prelude.{◌≤◌};
+use model::{Algorithm, Span, Verdicts};
+use std::mem;
 
-use model::Span;
-use words::{Number, Octets};
+// ── Commands ────────────────────────────────────────────────────────────────────────────────────────────────────────
 
 // The calls on the table.
 #[derive(Clone, Copy)]
-pub enum TableCall {
-    New,
-    Enrol,
-    Issue,
-    Revoke,
-    Close,
-    Look,
-    Message,
+pub enum TableCall<'a> {
+    New {
+        time: u64,
+    },
+    Enrol {
+        time: u64,
+        suffix: &'a [u8],
+        lifetime: u64,
+        fresh: u64,
+        algorithm: u64,
+    },
+    Issue {
+        time: u64,
+        pair: u64,
+        algorithm: u64,
+    },
+    Revoke {
+        time: u64,
+        pair: u64,
+    },
+    Close {
+        time: u64,
+        pair: u64,
+    },
+    Look {
+        message: &'a [u8],
+    },
+    Message {
+        given: Given<'a>,
+        room: u64,
+    },
     List,
-    ListIn,
-    Load,
-    Mend,
+    ListIn {
+        room: u64,
+    },
+    Load {
+        listing: &'a [u8],
+    },
+    Mend {
+        room: u64,
+        listing: &'a [u8],
+    },
+}
+
+// A message, and what is handed to the call beside it.
+#[derive(Clone, Copy)]
+pub struct Given<'a> {
+    pub verdicts: Verdicts,
+    pub offer: &'a [u8],
+    pub message: &'a [u8],
+    pub record: &'a [u8],
+}
+
+// Several messages in one call: the octets that they stand in, and how many they are.
+#[derive(Clone, Copy)]
+pub struct Batch<'a> {
+    pub room: u64,
+    pub octets: &'a [u8],
+    pub count: u64,
+}
+
+// Another server's reply, and what it answers.
+#[derive(Clone, Copy)]
+pub struct Compare<'a> {
+    pub listing: &'a [u8],
+    pub given: Given<'a>,
+    pub reply: &'a [u8],
 }
 
 // The lines that are done to the resolver.
 #[derive(Clone, Copy)]
-pub enum ResolverCall {
-    Hold,
-    Renewal,
-    Adoption,
-    Deletion,
-    Note,
-    Reply,
+pub enum ResolverCall<'a> {
+    Hold {
+        name: &'a [u8],
+        algorithm: Algorithm,
+        inception: u32,
+        expiration: u32,
+    },
+    Renewal {
+        id: u16,
+        name: &'a [u8],
+        algorithm: Algorithm,
+        inception: u32,
+        expiration: u32,
+        key: &'a [u8],
+        room: u64,
+    },
+    Adoption {
+        id: u16,
+        room: u64,
+    },
+    Deletion {
+        id: u16,
+        room: u64,
+    },
+    Note {
+        id: u16,
+    },
+    Reply {
+        good: bool,
+        message: &'a [u8],
+    },
     Keys,
+}
+
+// A message without a TSIG, and the TSIG's fields but for its MAC.
+#[derive(Clone, Copy)]
+pub struct Unsigned<'a> {
+    pub message: &'a [u8],
+    pub name: &'a [u8],
+    pub algorithm: &'a [u8],
+    pub signed: u64,
+    pub fudge: u16,
+    pub id: u16,
+    pub error: u16,
+    pub other: &'a [u8],
+    pub room: u64,
 }
 
 // The calls on octets alone.
 #[derive(Clone, Copy)]
-pub enum SigningCall {
-    DigestRequest,
-    DigestReply,
-    Finish,
-    ReadBack,
-    Remove,
-}
-
-// Whose a line is, and which call; or it does not read.
-#[derive(Clone, Copy)]
-pub enum Call {
-    Table(TableCall),
-    Batch,
-    Compare,
-    Resolver(ResolverCall),
-    Signing(SigningCall),
-    Unread,
-}
-
-// What the words behind the first say, each at its number: a number, `good` as 1 and `bad` as 0, or octets as a span of the arena. A batch's items stand beside
-// them; their count is number 3.
-#[derive(Clone, Copy)]
-pub struct Args {
-    pub numbers: [u64; 12],
-    pub spans: [Span; 12],
-    // how many octets of the arena are in use
-    used: usize,
-    // whether every word so far reads
-    read: bool,
+pub enum SigningCall<'a> {
+    DigestRequest {
+        unsigned: Unsigned<'a>,
+    },
+    DigestReply {
+        unsigned: Unsigned<'a>,
+        mac: &'a [u8],
+    },
+    Finish {
+        unsigned: Unsigned<'a>,
+        mac: &'a [u8],
+    },
+    ReadBack {
+        message: &'a [u8],
+    },
+    Remove {
+        message: &'a [u8],
+        room: u64,
+    },
 }
 
 #[derive(Clone, Copy)]
-pub struct Command {
-    pub call: Call,
-    pub args: Args,
+pub enum Command<'a> {
+    Table(TableCall<'a>),
+    Batch(Batch<'a>),
+    Compare(Compare<'a>),
+    Resolver(ResolverCall<'a>),
+    Signing(SigningCall<'a>),
 }
 
 // ── Words ───────────────────────────────────────────────────────────────────────────────────────────────────────────
 
-// The part of s from one place to another; no octets where there is none.
-pub fn part(s: &[u8], from: usize, to: usize) -> &[u8] {
-    if s.len() < to {
-        return &s[..0];
-    }
-    if to < from {
-        return &s[..0];
-    }
-    &s[from..to]
+// The words of a line that are left, each behind one space, and the octets of the arena that are free.
+#[derive(Drop)]
+struct Words<'l, 'a> {
+    left: Option<&'l [u8]>,
+    arena: &'a mut [u8],
 }
 
-// The octets of a buffer from a place on.
-fn tail(s: &mut [u8], from: usize) -> &mut [u8] {
-    if s.len() < from {
-        return &mut s[..0];
-    }
-    &mut s[from..]
-}
-
-// Where the word that starts at `from` ends: at a space, or with the line.
-fn word_end(line: &[u8], from: usize) -> usize
-    ensures { from ≤ result }
-{
-    let mut at = from;
-    while at < line.len() {
-        if line[at] == b' ' {
-            return at;
-        }
-        at += 1;
-    }
-    at
-}
-
-// Where the word behind one that ends at `at` ends; at the end of the line there is none.
-fn next_end(line: &[u8], at: usize) -> usize {
-    if line.len() <= at {
-        return at;
-    }
-    word_end(line, at + 1)
-}
-
-// What a word says as octets, written to the front of out: hexadecimal, or `-` for none.
-fn octets_into(w: &[u8], out: &mut [u8]) -> Octets {
-    if w.len() == 0 {
-        return Octets::None;
-    }
-    if words::is_word(w, b"-") {
-        return Octets::Count(0);
-    }
-    if out.len() < w.len() - w.len() / 2 {
-        return Octets::None;
-    }
-    words::unhex_into(w, out)
-}
-
-fn verdict(w: &[u8]) -> Number {
-    if words::is_word(w, b"good") {
-        return Number::Is(1);
-    }
-    if words::is_word(w, b"bad") {
-        return Number::Is(0);
-    }
-    Number::None
-}
-
-// The number of an algorithm that the resolver knows.
-fn algorithm(w: &[u8]) -> Number {
-    let Number::Is(n) = words::read_number(w) else {
-        return Number::None;
-    };
-    match n {
-        256 | 384 | 512 => Number::Is(n),
-        _ => Number::None,
+// A caller's verdict: `good` or `bad`.
+fn verdict(word: &[u8]) -> Option<bool> {
+    match word {
+        b"good" => Some(true),
+        b"bad" => Some(false),
+        _ => None,
     }
 }
 
-// ── Arguments ───────────────────────────────────────────────────────────────────────────────────────────────────────
-
-fn no_args() -> Args {
-    Args {
-        numbers: [0; 12],
-        spans: [Span { from: 0, size: 0 }; 12],
-        used: 0,
-        read: true,
-    }
-}
-
-fn misread(a: Args) -> Args {
-    let mut b = a;
-    b.read = false;
-    b
-}
-
-// With the number of word i, if it reads and is not over `most`.
-fn with_number(a: Args, i: usize, n: Number, most: u64) -> Args {
-    let Number::Is(x) = n else {
-        return misread(a);
-    };
-    if most < x {
-        return misread(a);
-    }
-    if 12 <= i {
-        return misread(a);
-    }
-    let mut b = a;
-    b.numbers[i] = x;
-    b
-}
-
-// With the octets of word i behind those that the arena holds, if it reads and has no more than `most`.
-fn with_octets(a: Args, i: usize, w: &[u8], most: usize, arena: &mut [u8]) -> Args {
-    let from = a.used;
-    let Octets::Count(size) = octets_into(w, tail(arena, from)) else {
-        return misread(a);
-    };
-    if most < size {
-        return misread(a);
-    }
-    if 12 <= i {
-        return misread(a);
-    }
-    if arena.len() < size {
-        return misread(a);
-    }
-    if arena.len() - size < from {
-        return misread(a);
-    }
-    let mut b = a;
-    b.spans[i] = Span { from, size };
-    b.used = from + size;
-    b
-}
-
-// With word i, by its kind: `n` a number, `i` one of 16 bits, `t` one of 32 bits, `g` 256, 384 or 512; `v` good or bad; `o` octets, `k` 255 of them at most.
-fn with_word(a: Args, i: usize, kind: u8, w: &[u8], arena: &mut [u8]) -> Args {
-    match kind {
-        b'n' => with_number(a, i, words::read_number(w), 0xffff_ffff_ffff_ffff),
-        b'i' => with_number(a, i, words::read_number(w), 65535),
-        b't' => with_number(a, i, words::read_number(w), 0xffff_ffff),
-        b'g' => with_number(a, i, algorithm(w), 512),
-        b'v' => with_number(a, i, verdict(w), 1),
-        b'o' => with_octets(a, i, w, 100000, arena),
-        b'k' => with_octets(a, i, w, 255, arena),
-        _ => misread(a),
-    }
-}
-
-// The words behind the first, one of each kind in order, each behind one space.
-fn args_of(line: &[u8], kinds: &[u8], arena: &mut [u8]) -> Args {
-    let mut a = no_args();
-    let mut at = word_end(line, 0);
-    let mut i = 0;
-    while i < kinds.len() {
-        if line.len() <= at {
-            return misread(a);
-        }
-        let from = at + 1;
-        at = word_end(line, from);
-        a = with_word(a, i + 1, kinds[i], part(line, from, at), arena);
-        i += 1;
-    }
-    if at < line.len() {
-        return misread(a);
-    }
-    a
-}
-
-// ── A batch's items ─────────────────────────────────────────────────────────────────────────────────────────────────
-
-// Word i of an item, from 0: one of its verdicts or of its numbers.
-fn item_word(i: usize, w: &[u8]) -> Number {
-    if i == 1 {
-        return verdict(w);
-    }
-    if i == 6 {
-        return verdict(w);
-    }
-    words::read_number(w)
-}
-
-fn keep_word(items: &mut [u64], i: usize, x: u64) {
-    if i < items.len() {
-        items[i] = x;
-    }
-}
-
-// How many items the words behind `from` say, if they read: nine words an item. Only as many words are kept as there is room for.
-fn items_of(line: &[u8], from: usize, items: &mut [u64]) -> Number {
-    let mut at = from;
-    let mut i: usize = 0;
-    while at < line.len() {
-        let start = at + 1;
-        at = word_end(line, start);
-        let Number::Is(x) = item_word(i % 9, part(line, start, at)) else {
-            return Number::None;
+impl<'l, 'a> Words<'l, 'a> {
+    fn next(&mut self) -> Option<&'l [u8]> {
+        let left = self.left?;
+        let Some(end) = left.iter().position(|octet| *octet == b' ') else {
+            self.left = None;
+            return Some(left);
         };
-        keep_word(items, i, x);
-        i += 1;
+        self.left = Some(&left[end + 1..]);
+        Some(&left[..end])
     }
-    if i % 9 != 0 {
-        return Number::None;
+
+    fn number(&mut self) -> Option<u64> {
+        words::read_number(self.next()?)
     }
-    Number::Is((i / 9) as u64)
+
+    fn verdict(&mut self) -> Option<bool> {
+        verdict(self.next()?)
+    }
+
+    fn id(&mut self) -> Option<u16> {
+        u16::try_from(self.number()?).ok()
+    }
+
+    fn time(&mut self) -> Option<u32> {
+        u32::try_from(self.number()?).ok()
+    }
+
+    // An algorithm that the resolver knows.
+    fn algorithm(&mut self) -> Option<Algorithm> {
+        match self.number()? {
+            256 => Some(Algorithm::Sha256),
+            384 => Some(Algorithm::Sha384),
+            512 => Some(Algorithm::Sha512),
+            _ => None,
+        }
+    }
+
+    // Octets, from hexadecimal; `-` for none. They take the front of the arena that is free.
+    fn octets(&mut self) -> Option<&'a [u8]> {
+        let word = self.next()?;
+        match word {
+            b"" => None,
+            b"-" => Some(&[]),
+            _ => self.unhex(word),
+        }
+    }
+
+    fn key_name(&mut self) -> Option<&'a [u8]> {
+        let name = self.octets()?;
+        if name.len() <= 255 { Some(name) } else { None }
+    }
+
+    fn unhex(&mut self, word: &[u8]) -> Option<&'a [u8]> {
+        let size = word.len().div_ceil(2);
+        let (octets, free) = mem::take(&mut self.arena).split_at_mut_checked(size)?;
+        self.arena = free;
+        words::unhex_into(word, octets)?;
+        Some(octets)
+    }
+
+    fn is_done(&self) -> bool {
+        self.left.is_none()
+    }
 }
 
-// ── A line ──────────────────────────────────────────────────────────────────────────────────────────────────────────
+// ── Lines ───────────────────────────────────────────────────────────────────────────────────────────────────────────
 
-fn unread() -> Command {
-    Command {
-        call: Call::Unread,
-        args: no_args(),
+impl<'l, 'a> Words<'l, 'a> {
+    fn table_call(&mut self, call: &[u8]) -> Option<TableCall<'a>> {
+        match call {
+            b"new" => Some(TableCall::New {
+                time: self.number()?,
+            }),
+            b"enrol" => Some(TableCall::Enrol {
+                time: self.number()?,
+                suffix: self.octets()?,
+                lifetime: self.number()?,
+                fresh: self.number()?,
+                algorithm: self.number()?,
+            }),
+            b"issue" => Some(TableCall::Issue {
+                time: self.number()?,
+                pair: self.number()?,
+                algorithm: self.number()?,
+            }),
+            b"revoke" => Some(TableCall::Revoke {
+                time: self.number()?,
+                pair: self.number()?,
+            }),
+            b"close" => Some(TableCall::Close {
+                time: self.number()?,
+                pair: self.number()?,
+            }),
+            b"look" => Some(TableCall::Look {
+                message: self.octets()?,
+            }),
+            b"message" => self.message(),
+            b"list" if self.is_done() => Some(TableCall::List),
+            b"list" => Some(TableCall::ListIn {
+                room: self.number()?,
+            }),
+            b"load" => Some(TableCall::Load {
+                listing: self.octets()?,
+            }),
+            b"mend" => Some(TableCall::Mend {
+                room: self.number()?,
+                listing: self.octets()?,
+            }),
+            _ => None,
+        }
+    }
+
+    // Without a keying verdict and a record the one is bad and the other no octets.
+    fn message(&mut self) -> Option<TableCall<'a>> {
+        let now = self.number()?;
+        let good = self.verdict()?;
+        let offer = self.octets()?;
+        let room = self.number()?;
+        let message = self.octets()?;
+        let mut fits = false;
+        let mut record: &'a [u8] = &[];
+        if !self.is_done() {
+            fits = self.verdict()?;
+            record = self.octets()?;
+        }
+        let verdicts = Verdicts { now, good, fits };
+        let given = Given {
+            verdicts,
+            offer,
+            message,
+            record,
+        };
+        Some(TableCall::Message { given, room })
+    }
+
+    fn compare(&mut self) -> Option<Compare<'a>> {
+        let listing = self.octets()?;
+        let now = self.number()?;
+        let good = self.verdict()?;
+        let offer = self.octets()?;
+        let message = self.octets()?;
+        let fits = self.verdict()?;
+        let record = self.octets()?;
+        let reply = self.octets()?;
+        let verdicts = Verdicts { now, good, fits };
+        let given = Given {
+            verdicts,
+            offer,
+            message,
+            record,
+        };
+        Some(Compare {
+            listing,
+            given,
+            reply,
+        })
+    }
+
+    fn resolver_call(&mut self, call: &[u8]) -> Option<ResolverCall<'a>> {
+        match call {
+            b"hold" => Some(ResolverCall::Hold {
+                name: self.key_name()?,
+                algorithm: self.algorithm()?,
+                inception: self.time()?,
+                expiration: self.time()?,
+            }),
+            b"renewal" => Some(ResolverCall::Renewal {
+                id: self.id()?,
+                name: self.octets()?,
+                algorithm: self.algorithm()?,
+                inception: self.time()?,
+                expiration: self.time()?,
+                key: self.octets()?,
+                room: self.number()?,
+            }),
+            b"adoption" => Some(ResolverCall::Adoption {
+                id: self.id()?,
+                room: self.number()?,
+            }),
+            b"deletion" => Some(ResolverCall::Deletion {
+                id: self.id()?,
+                room: self.number()?,
+            }),
+            b"note" => Some(ResolverCall::Note { id: self.id()? }),
+            b"reply" => Some(ResolverCall::Reply {
+                good: self.verdict()?,
+                message: self.octets()?,
+            }),
+            b"keys" => Some(ResolverCall::Keys),
+            _ => None,
+        }
+    }
+
+    fn unsigned(&mut self) -> Option<Unsigned<'a>> {
+        Some(Unsigned {
+            message: self.octets()?,
+            name: self.octets()?,
+            algorithm: self.octets()?,
+            signed: self.number()?,
+            fudge: self.id()?,
+            id: self.id()?,
+            error: self.id()?,
+            other: self.octets()?,
+            room: self.number()?,
+        })
+    }
+
+    fn signing_call(&mut self, call: &[u8]) -> Option<SigningCall<'a>> {
+        match call {
+            b"digest-request" => Some(SigningCall::DigestRequest {
+                unsigned: self.unsigned()?,
+            }),
+            b"digest-reply" => Some(SigningCall::DigestReply {
+                unsigned: self.unsigned()?,
+                mac: self.octets()?,
+            }),
+            b"finish" => Some(SigningCall::Finish {
+                unsigned: self.unsigned()?,
+                mac: self.octets()?,
+            }),
+            b"read-back" => Some(SigningCall::ReadBack {
+                message: self.octets()?,
+            }),
+            b"remove" => Some(SigningCall::Remove {
+                message: self.octets()?,
+                room: self.number()?,
+            }),
+            _ => None,
+        }
+    }
+
+    // How many items the words that are left say, nine words an item. Only as many words are kept as there is room for.
+    fn items(&mut self, items: &mut [u64]) -> Option<u64> {
+        let Some(left) = self.left.take() else {
+            return Some(0);
+        };
+        let mut count = 0;
+        for (i, word) in left.split(|octet| *octet == b' ').enumerate() {
+            let x = match i % 9 {
+                1 | 6 => u64::from(verdict(word)?),
+                _ => words::read_number(word)?,
+            };
+            if let Some(item) = items.get_mut(i) {
+                *item = x;
+            }
+            count = i + 1;
+        }
+        if count % 9 == 0 {
+            Some((count / 9) as u64)
+        } else {
+            None
+        }
+    }
+
+    fn batch(&mut self, items: &mut [u64]) -> Option<Batch<'a>> {
+        Some(Batch {
+            room: self.number()?,
+            octets: self.octets()?,
+            count: self.items(items)?,
+        })
+    }
+
+    // A line that one group of calls does not read goes to the next one. Where the line is ill no other reads it, since no two calls have the same name.
+    fn command(&mut self, items: &mut [u64]) -> Option<Command<'a>> {
+        let call = self.next()?;
+        match call {
+            b"batch" => return Some(Command::Batch(self.batch(items)?)),
+            b"compare" => return Some(Command::Compare(self.compare()?)),
+            _ => {}
+        }
+        if let Some(call) = self.table_call(call) {
+            return Some(Command::Table(call));
+        }
+        if let Some(call) = self.resolver_call(call) {
+            return Some(Command::Resolver(call));
+        }
+        Some(Command::Signing(self.signing_call(call)?))
     }
 }
 
-// The command, if each of its words reads.
-fn if_read(call: Call, args: Args) -> Command {
-    if args.read {
-        return Command { call, args };
+// A line of at most 200,000 octets as a command, if it reads; its octets stand in the arena, which 100,000 are enough for, and the first words of a batch's items in
+// `items`.
+pub fn read_line<'a>(line: &[u8], arena: &'a mut [u8], items: &mut [u64]) -> Option<Command<'a>> {
+    if line.len() > 200000 {
+        return None;
     }
-    unread()
+    let mut words = Words {
+        left: Some(line),
+        arena,
+    };
+    let command = words.command(items)?;
+    if words.is_done() { Some(command) } else { None }
 }
 
-// The line as this call, with words of these kinds.
-fn command_of(call: Call, line: &[u8], kinds: &[u8], arena: &mut [u8]) -> Command {
-    if_read(call, args_of(line, kinds, arena))
-}
-
-fn table_call(call: TableCall, line: &[u8], kinds: &[u8], arena: &mut [u8]) -> Command {
-    command_of(Call::Table(call), line, kinds, arena)
-}
-
-// A message's line: without a keying verdict and a lent record, or with them. Those that are not said are bad and no octets.
-fn read_message_line(line: &[u8], arena: &mut [u8]) -> Command {
-    let a = args_of(line, b"nvono", arena);
-    if a.read {
-        return if_read(Call::Table(TableCall::Message), a);
-    }
-    table_call(TableCall::Message, line, b"nvonovo", arena)
-}
-
-fn resolver_call(call: ResolverCall, line: &[u8], kinds: &[u8], arena: &mut [u8]) -> Command {
-    command_of(Call::Resolver(call), line, kinds, arena)
-}
-
-fn signing_call(call: SigningCall, line: &[u8], kinds: &[u8], arena: &mut [u8]) -> Command {
-    command_of(Call::Signing(call), line, kinds, arena)
-}
-
-fn read_table_line(word: &[u8], line: &[u8], arena: &mut [u8]) -> Command {
-    if words::is_word(word, b"new") {
-        return table_call(TableCall::New, line, b"n", arena);
-    }
-    if words::is_word(word, b"enrol") {
-        return table_call(TableCall::Enrol, line, b"nonnn", arena);
-    }
-    if words::is_word(word, b"issue") {
-        return table_call(TableCall::Issue, line, b"nnn", arena);
-    }
-    if words::is_word(word, b"revoke") {
-        return table_call(TableCall::Revoke, line, b"nn", arena);
-    }
-    if words::is_word(word, b"close") {
-        return table_call(TableCall::Close, line, b"nn", arena);
-    }
-    if words::is_word(word, b"look") {
-        return table_call(TableCall::Look, line, b"o", arena);
-    }
-    if words::is_word(word, b"message") {
-        return read_message_line(line, arena);
-    }
-    read_listing_line(word, line, arena)
-}
-
-// A listing's line: without a room, or with one.
-fn read_list_line(line: &[u8], arena: &mut [u8]) -> Command {
-    let a = args_of(line, b"", arena);
-    if a.read {
-        return if_read(Call::Table(TableCall::List), a);
-    }
-    table_call(TableCall::ListIn, line, b"n", arena)
-}
-
-fn read_listing_line(word: &[u8], line: &[u8], arena: &mut [u8]) -> Command {
-    if words::is_word(word, b"list") {
-        return read_list_line(line, arena);
-    }
-    if words::is_word(word, b"load") {
-        return table_call(TableCall::Load, line, b"o", arena);
-    }
-    if words::is_word(word, b"mend") {
-        return table_call(TableCall::Mend, line, b"no", arena);
-    }
-    if words::is_word(word, b"compare") {
-        return command_of(Call::Compare, line, b"onvoovoo", arena);
-    }
-    read_resolver_line(word, line, arena)
-}
-
-fn read_resolver_line(word: &[u8], line: &[u8], arena: &mut [u8]) -> Command {
-    if words::is_word(word, b"hold") {
-        return resolver_call(ResolverCall::Hold, line, b"kgtt", arena);
-    }
-    if words::is_word(word, b"renewal") {
-        return resolver_call(ResolverCall::Renewal, line, b"iogtton", arena);
-    }
-    if words::is_word(word, b"adoption") {
-        return resolver_call(ResolverCall::Adoption, line, b"in", arena);
-    }
-    if words::is_word(word, b"deletion") {
-        return resolver_call(ResolverCall::Deletion, line, b"in", arena);
-    }
-    if words::is_word(word, b"note") {
-        return resolver_call(ResolverCall::Note, line, b"i", arena);
-    }
-    if words::is_word(word, b"reply") {
-        return resolver_call(ResolverCall::Reply, line, b"vo", arena);
-    }
-    if words::is_word(word, b"keys") {
-        return resolver_call(ResolverCall::Keys, line, b"", arena);
-    }
-    read_signing_line(word, line, arena)
-}
-
-fn read_signing_line(word: &[u8], line: &[u8], arena: &mut [u8]) -> Command {
-    if words::is_word(word, b"digest-request") {
-        return signing_call(SigningCall::DigestRequest, line, b"oooniiion", arena);
-    }
-    if words::is_word(word, b"digest-reply") {
-        return signing_call(SigningCall::DigestReply, line, b"oooniiiono", arena);
-    }
-    if words::is_word(word, b"finish") {
-        return signing_call(SigningCall::Finish, line, b"oooniiiono", arena);
-    }
-    if words::is_word(word, b"read-back") {
-        return signing_call(SigningCall::ReadBack, line, b"o", arena);
-    }
-    if words::is_word(word, b"remove") {
-        return signing_call(SigningCall::Remove, line, b"on", arena);
-    }
-    unread()
-}
-
-// A batch's line: two words as other lines have them, then its items.
-fn read_batch_line(line: &[u8], arena: &mut [u8], items: &mut [u64]) -> Command {
-    let end = next_end(line, next_end(line, word_end(line, 0)));
-    let a = args_of(part(line, 0, end), b"no", arena);
-    let count = items_of(line, end, items);
-    if_read(Call::Batch, with_number(a, 3, count, 0xffff_ffff_ffff_ffff))
-}
-
-// A line of at most 200,000 octets as a command; its octets stand in the arena, which 100,000 are enough for, and the first words of a batch's items in `items`.
-pub fn read_line(line: &[u8], arena: &mut [u8], items: &mut [u64]) -> Command {
-    if 200000 < line.len() {
-        return unread();
-    }
-    let word = part(line, 0, word_end(line, 0));
-    if words::is_word(word, b"batch") {
-        return read_batch_line(line, arena, items);
-    }
-    read_table_line(word, line, arena)
-}
-
-// ── What a command says ─────────────────────────────────────────────────────────────────────────────────────────────
-
-// Word number i as a number.
-pub fn number(a: Args, i: usize) -> u64 {
-    if i < 12 { a.numbers[i] } else { 0 }
-}
+// ── Spans ───────────────────────────────────────────────────────────────────────────────────────────────────────────
 
 // The octets of a span; none where it does not lie inside.
 pub fn spanned(s: &[u8], span: Span) -> &[u8] {
-    if s.len() < span.size {
-        return &s[..0];
+    match span.from.checked_add(span.size) {
+        Some(to) => s.get(span.from..to).unwrap_or(&[]),
+        None => &[],
     }
-    if s.len() - span.size < span.from {
-        return &s[..0];
-    }
-    part(s, span.from, span.from + span.size)
-}
-
-// Word number i as octets.
-pub fn octets(a: Args, i: usize, arena: &[u8]) -> &[u8] {
-    if 12 <= i {
-        return &arena[..0];
-    }
-    let span = a.spans[i];
-    spanned(arena, span)
 }

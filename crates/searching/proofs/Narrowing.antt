@@ -3,7 +3,7 @@
 use Prim.Native.Nat.{ℕ, zero, suc, ◌+◌, ◌-◌, ◌*◌, ◌/◌, ◌^◌, ◌≤◌, ◌<◌}
 use mathlib.Core.Bool.{false}
 use mathlib.Core.List.{List}
-use mathlib.Core.Option.{Option, none, some}
+use Rattle.std.specs.Prelude.{Option, None, Some, Result, Ok, Err}
 use mathlib.Core.Path.{◌≡◌, refl, sym, ap, ◌∙◌}
 use native.Mathlib.Decide.{dec_lt}
 use native.Mathlib.Nat.{pow-suc}
@@ -11,15 +11,14 @@ use native.Mathlib.Omega.{arith}
 use borrow.Author.Tests.{lt-ltb, le-ltb}
 use Rattle.model.specs.Names.{same_name}
 use Rattle.model.specs.Tables.{names_of, row_named}
-use Rattle.ordering.specs.declared.Ordering.{Ordering}
-use Rattle.ordering.specs.declared.Ordering.TheVariants.{Less, Equal, Greater}
-use Rattle.ordering.specs.Order.{order_of, is_equal}
+use Rattle.std.specs.declared.cmp.Ordering.{Ordering}
+use Rattle.std.specs.declared.cmp.Ordering.TheVariants.{Less, Equal, Greater}
+use Rattle.std.specs.Ordering.{is_eq}
+use Rattle.ordering.specs.Order.{order_of}
 use Rattle.ordering.proofs.Laws.{order_same, order_trans, order_less, order_greater, order_as}
 use Rattle.store.specs.Layout.{count_of, place_of, row_in, suffix_in, laid_table, table_of}
 use Rattle.store.proofs.Laid.{Laid, lays, ascends, shown}
 use Rattle.store.proofs.Listed.{names_laid, named_none, named_some}
-use Rattle.searching.specs.declared.Found.{Found}
-use Rattle.searching.specs.declared.Found.TheVariants.{Row, Missing}
 use Rattle.searching.specs.Search.{by_order, halved, Sought}
 
 order_of_two : (p q : ℕ) → (p < q → ⊥) → (p ≡ q → ⊥) → q < p
@@ -66,12 +65,12 @@ turn :
     → low < high
     → m ≡ low + (high - low) / 2
     → order m ≡ o
-    → halved w order left low high ≡ by_order o (halved w order (left - 1) (m + 1) high) (Row (row_in w m)) (halved w order (left - 1) low m)
+    → halved w order left low high ≡ by_order o (halved w order (left - 1) (m + 1) high) (Ok (row_in w m)) (halved w order (left - 1) low m)
 unfolding halved
 turn w order zero low high m l h e t = absurd (omega arith)
 turn w order (suc k) low high m l h e t = let z : suc k - 1 ≡ k = omega arith in rw (z, lt-ltb low high h, ← e, t) refl
 
-no_turn : (w : List ℕ) (order : ℕ → Ordering) (left low high : ℕ) → high ≤ low → halved w order left low high ≡ Missing low
+no_turn : (w : List ℕ) (order : ℕ → Ordering) (left low high : ℕ) → high ≤ low → halved w order left low high ≡ Err low
 unfolding halved
 no_turn w order zero low high h = refl
 no_turn w order (suc k) low high h = rw (le-ltb low high h) refl
@@ -126,10 +125,10 @@ module _ {w s : List ℕ} (l : Laid w s) (name : List ℕ) where
   -- ── What it found ─────────────────────────────────────────────────────────────────────────────────────────────────
 
   -- whether row i bears the name, by the place where it lies
-  bears : (i : ℕ) → same_name (suffix_in w s (place_of w i)) name ≡ is_equal (order_of (suffix_in w s (place_of w i)) name)
+  bears : (i : ℕ) → same_name (suffix_in w s (place_of w i)) name ≡ is_eq (order_of (suffix_in w s (place_of w i)) name)
   bears i = order_same (suffix_in w s (place_of w i)) name
 
-  found_at : (m : ℕ) → m < count_of w → order_of (suffix_in w s m) name ≡ Equal → row_named (names_of (laid_table w s)) name ≡ some (row_in w m)
+  found_at : (m : ℕ) → m < count_of w → order_of (suffix_in w s m) name ≡ Equal → row_named (names_of (laid_table w s)) name ≡ Some (row_in w m)
   unfolding row_named
   found_at m h o =
       let p = l.at m h in
@@ -141,10 +140,10 @@ module _ {w s : List ℕ} (l : Laid w s) (name : List ℕ) where
       bears j
       ∙ other j (omega (arith, p.enrolled)) (dec_lt (place_of w j) m)
       (λ e. let i = sym (l.at j (omega (arith, p.enrolled))).named ∙ ap (row_in w) e in omega arith))
-      ∙ ap {B = Option ℕ} some z)
+      ∙ ap {B = Option ℕ} Some z)
     where
       -- a row at another place does not
-      other : (j : ℕ) → j < count_of w → Dec (place_of w j < m) → (place_of w j ≡ m → ⊥) → is_equal (order_of (suffix_in w s (place_of w j)) name) ≡ false
+      other : (j : ℕ) → j < count_of w → Dec (place_of w j < m) → (place_of w j ≡ m → ⊥) → is_eq (order_of (suffix_in w s (place_of w j)) name) ≡ false
       other j g (yes k) n = rw (sym (order_as (suffix_in w s (place_of w j)) (suffix_in w s m) name o) ∙ ascends l (place_of w j) m k h) refl
       other j g (no k) n =
           rw
@@ -152,12 +151,12 @@ module _ {w s : List ℕ} (l : Laid w s) (name : List ℕ) where
           ∙ order_greater (suffix_in w s m) (suffix_in w s (place_of w j)) (ascends l m (place_of w j) (order_of_two (place_of w j) m k n) (l.at j g).lands))
           refl
 
-  found_nowhere : {low high left : ℕ} → Narrowed w s name low high left → high ≤ low → row_named (names_of (laid_table w s)) name ≡ none
+  found_nowhere : {low high left : ℕ} → Narrowed w s name low high left → high ≤ low → row_named (names_of (laid_table w s)) name ≡ None
   unfolding row_named
   found_nowhere {low} {high} n e =
       rw (names_laid w s) (named_none name _ (count_of w) 0 (λ j g. bears j ∙ missed (place_of w j) (l.at j g).lands (dec_lt (place_of w j) low)))
     where
-      missed : (q : ℕ) → q < count_of w → Dec (q < low) → is_equal (order_of (suffix_in w s q) name) ≡ false
+      missed : (q : ℕ) → q < count_of w → Dec (q < low) → is_eq (order_of (suffix_in w s q) name) ≡ false
       missed q h (yes g) = rw (n.below q g) refl
       missed q h (no g) = rw (n.above q (omega arith) h) refl
 
@@ -167,21 +166,21 @@ module _ {w s : List ℕ} (l : Laid w s) (name : List ℕ) where
   -- as the code answers
   pub sought_row :
       {low high left : ℕ} (n : Narrowed w s name low high left) → low < high → (m : ℕ) → m ≡ low + (high - low) / 2
-      → order_of (suffix_in w s m) name ≡ Equal → {i : ℕ} → i ≡ row_in w m → Sought w s name (Row i)
+      → order_of (suffix_in w s m) name ≡ Equal → {i : ℕ} → i ≡ row_in w m → Sought w s name (Ok i)
   sought_row {low} {high} {left} n more m middle o e = record {
-    says = ap (λ (ns : List (List ℕ)). row_named ns name) its_names ∙ found_at m (inside n more m middle) o ∙ ap some (sym e);
+    says = ap (λ (ns : List (List ℕ)). row_named ns name) its_names ∙ found_at m (inside n more m middle) o ∙ ap Some (sym e);
     gap = λ g q. let z : ◌≡◌ {A = ℕ} 0 1 = cc in absurd (omega arith);
-    seven = ap {B = Found} (λ (i : ℕ). Row i) e ∙ sym (turn w _ left low high m (one_left n more) more middle o) ∙ n.turns;
+    seven = ap {B = Result ℕ ℕ} (λ (i : ℕ). Ok i) e ∙ sym (turn w _ left low high m (one_left n more) more middle o) ∙ n.turns;
   }
 
-  pub sought_missing : {low high left : ℕ} → Narrowed w s name low high left → high ≤ low → Sought w s name (Missing low)
+  pub sought_missing : {low high left : ℕ} → Narrowed w s name low high left → high ≤ low → Sought w s name (Err low)
   sought_missing {low} {high} {left} n e = record {
     says = ap (λ (ns : List (List ℕ)). row_named ns name) its_names ∙ found_nowhere n e;
     gap = λ g q. rw (← same q) (record { within = omega (arith, n.within, n.between); below = n.below; above = λ r h k. n.above r (omega arith) k });
     seven = sym (no_turn w _ left low high e) ∙ n.turns;
   }
     where
-      same : {g : ℕ} → ◌≡◌ {A = Found} (Missing low) (Missing g) → low ≡ g
+      same : {g : ℕ} → ◌≡◌ {A = Result ℕ ℕ} (Err low) (Err g) → low ≡ g
       same q = cc
 
 -- ── What the code compared ──────────────────────────────────────────────────────────────────────────────────────────

@@ -2,7 +2,7 @@
 use Prim.Native.Nat.{ℕ, zero, suc, ◌+◌, ◌<◌}
 use mathlib.Core.Path.{◌≡◌, refl, sym, ap, ap₂, subst, ◌∙◌}
 use mathlib.Core.Bool.{Bool, true, not}
-use mathlib.Core.Option.{Option, none, some}
+use Rattle.std.specs.Prelude.{Option, None, Some}
 use mathlib.Core.List.{List}
 use native.Mathlib.Omega.{arith}
 use lib.ListN.{length, drop}
@@ -16,22 +16,16 @@ use Rattle.model.specs.Replies.{second_ok}
 use Rattle.model.specs.Calls.{DONE, TABLE, SIZE, OFFER, FORMAT, NOTQUERY, ROOM, KEYREC, Result, refusal_at, refusal, refuses, breaks, unchanged, leaves, size_ok, offer_ok, room_for, reply_to, replied, answered, message_step, message, message_on, time_of, octets_owner, owner_of, step_of, holder_at, served, buffer_after, Step as ModelStep}
 use Rattle.model.proofs.Tests.{by_check, by_place}
 use Rattle.model.proofs.CallLaws.{same_row, holder_by, with_held, buffer_refused, changes_it}
-use Rattle.judging.specs.declared.Who.{Who}
-use Rattle.judging.specs.declared.Who.TheVariants.{Pair as Owner}
 use Rattle.judging.specs.Judged.{holder_of}
-use Rattle.searching.specs.declared.Found.{Found}
-use Rattle.searching.specs.declared.Found.TheVariants.{Row, Missing}
-use Rattle.searching.specs.Search.{found_row}
 use Rattle.locating.proofs.Owners.{row_in, row_held}
 use Rattle.step.specs.declared.Step.{Step}
-use Rattle.step.specs.declared.After.{After}
-use Rattle.step.specs.declared.After.TheVariants.{Same, Changed}
 use Rattle.step.specs.Steps.{Ready, Steps, Settles, pair_after}
 use Rattle.store.specs.Layout.{table_of}
 use Rattle.outcomes.specs.Gate.{Open, Entered}
 use Rattle.outcomes.specs.Ends.{Settled}
 use Rattle.outcomes.proofs.Laws.{suffix_short, own_none, own_settled, own_whole, call_refused, call_passed}
 use Rattle.server.specs.Serve.{OwnOf, Answered, AnsweredRest, RowKept, FoundIn, owner_as, suffix_as, KeptBy, Kept}
+use Rattle.judging.specs.declared.Owner.{Owner}
 
 -- ── A row that was found ────────────────────────────────────────────────────────────────────────────────────────────
 
@@ -44,39 +38,39 @@ pub row_ready :
     → y ≡ suffix_at (table_of w s) i
     → (time : ℕ)
     → Open w s time
-    → Ready (Owner (i + 1) p) y time
+    → Ready (Some (record { number = (i + 1); pair = p })) y time
 row_ready w s i h is-p is_y time o =
     record { ruled = record { tested = o.tested; rule = rw is-p (o.rule i h) }; short = rw is_y (suffix_short w s o.layout i h); on_time = o.fits }
 
 -- ── What a search found ─────────────────────────────────────────────────────────────────────────────────────────────
 
-pub found_in : (w s m : List ℕ) (f : Found) → octets_owner (names_of (table_of w s)) m ≡ found_row f → FoundIn (table_of w s) f
-found_in w s m (Row i) e = row_in w s m i e
-found_in w s m (Missing g) e = tt
+pub found_in : (w s m : List ℕ) (f : Option ℕ) → octets_owner (names_of (table_of w s)) m ≡ f → FoundIn (table_of w s) f
+found_in w s m (Some i) e = row_in w s m i e
+found_in w s m None e = tt
 
 pub found_ready :
-    (w s : List ℕ) (f : Found)
+    (w s : List ℕ) (f : Option ℕ)
     → FoundIn (table_of w s) f
-    → {who : Who} {y : List ℕ}
+    → {who : Option Owner} {y : List ℕ}
     → who ≡ owner_as (table_of w s) f
     → y ≡ suffix_as (table_of w s) f
     → (time : ℕ)
     → Open w s time
     → Ready who y time
-found_ready w s (Row i) h {y = y} is-who is_y time o = subst (λ (who : Who). Ready who y time) (sym is-who) (row_ready w s i h refl is_y time o)
-found_ready w s (Missing g) h {y = y} is-who is_y time o =
-    subst (λ (who : Who). Ready who y time) (sym is-who) (record { ruled = tt; short = rw is_y (omega arith); on_time = o.fits })
+found_ready w s (Some i) h {y = y} is-who is_y time o = subst (λ (who : Option Owner). Ready who y time) (sym is-who) (row_ready w s i h refl is_y time o)
+found_ready w s None h {y = y} is-who is_y time o =
+    subst (λ (who : Option Owner). Ready who y time) (sym is-who) (record { ruled = tt; short = rw is_y (omega arith); on_time = o.fits })
 
-pub found_held : (t : Table) (f : Found) {who : Who} {y : List ℕ} → who ≡ owner_as t f → y ≡ suffix_as t f → holder_of who y ≡ holder_by t (found_row f)
-found_held t (Row i) is-who is_y = ap₂ holder_of is-who is_y ∙ row_held t i refl refl
-found_held t (Missing g) is-who is_y = ap₂ holder_of is-who is_y
+pub found_held : (t : Table) (f : Option ℕ) {who : Option Owner} {y : List ℕ} → who ≡ owner_as t f → y ≡ suffix_as t f → holder_of who y ≡ holder_by t f
+found_held t (Some i) is-who is_y = ap₂ holder_of is-who is_y ∙ row_held t i refl refl
+found_held t None is-who is_y = ap₂ holder_of is-who is_y
 
 module _ {x : Step} {w s w' : List ℕ} {a : Answer} where
-  pub kept_row : {f : Found} {i : ℕ} → f ≡ Row i → RowKept i x w s w' a → Kept f x w s w' a
-  kept_row e k = record { says = subst (λ (f : Found). KeptBy f x w s w' a) (sym e) k }
+  pub kept_row : {f : Option ℕ} {i : ℕ} → f ≡ Some i → RowKept i x w s w' a → Kept f x w s w' a
+  kept_row e k = record { says = subst (λ (f : Option ℕ). KeptBy f x w s w' a) (sym e) k }
 
-pub kept_none : {x : Step} {w s : List ℕ} {f : Found} {g : ℕ} → f ≡ Missing g → Kept f x w s w x.answer
-kept_none {x} {w} {s} e = record { says = subst (λ (f : Found). KeptBy f x w s w x.answer) (sym e) (refl, refl) }
+pub kept_none : {x : Step} {w s : List ℕ} {f : Option ℕ} → f ≡ None → Kept f x w s w x.answer
+kept_none {x} {w} {s} e = record { says = subst (λ (f : Option ℕ). KeptBy f x w s w x.answer) (sym e) (refl, refl) }
 
 -- ── A refusal leaves the pair ───────────────────────────────────────────────────────────────────────────────────────
 
@@ -116,29 +110,29 @@ module _ (h : Holder) where
 -- ── The pair stored ─────────────────────────────────────────────────────────────────────────────────────────────────
 
 module _ (row : ℕ) (x : Step) (w s : List ℕ) where
-  pub keep_same : x.after ≡ Same → RowKept row x w s w x.answer
+  pub keep_same : x.after ≡ None → RowKept row x w s w x.answer
   keep_same e =
       record {
         answers = refl;
         refused = λ _. refl;
-        finished = λ _. sym (ap (λ (z : After). with_pair (table_of w s) row (pair_after (pair_at (table_of w s) row) z)) e ∙ same_row (table_of w s) row);
+        finished = λ _. sym (ap (λ (z : Option Pair). with_pair (table_of w s) row (pair_after (pair_at (table_of w s) row) z)) e ∙ same_row (table_of w s) row);
         kept = own_none row w;
       }
 
   pub keep_stored :
       {p : Pair}
-      → x.after ≡ Changed p
+      → x.after ≡ Some p
       → Settles x.after x.answer.number
       → {serial : ℕ} {w' : List ℕ} {a : Answer}
       → Settled row p serial w s w' a
       → RowKept row x w s w' x.answer
   unfolding DONE
   keep_stored is z st =
-      let e : x.answer.number ≡ 0 = subst (λ (y : After). Settles y x.answer.number) is z in
+      let e : x.answer.number ≡ 0 = subst (λ (y : Option Pair). Settles y x.answer.number) is z in
       record {
         answers = refl;
         refused = λ z. absurd (z e);
-        finished = λ _. ap (λ (r : Result). r.table) st.says ∙ sym (ap (λ (z : After). with_pair (table_of w s) row (pair_after (pair_at (table_of w s) row) z)) is);
+        finished = λ _. ap (λ (r : Result). r.table) st.says ∙ sym (ap (λ (z : Option Pair). with_pair (table_of w s) row (pair_after (pair_at (table_of w s) row) z)) is);
         kept = own_settled st;
       }
 
@@ -176,22 +170,22 @@ module _ (w s m : List ℕ) (given : Given) (b b' : List ℕ) where
     not_table : x.answer.number ≡ TABLE → ⊥
     not_table e = (quiet_message (holder_by (table_of w s) o) given (length b) m).passed (sym (ap (λ (a : Answer). a.number) its_step.answer) ∙ e)
 
-  pub answered_nobody : (x : Step) (h : Holder) → octets_owner (names_of (table_of w s)) m ≡ none → h ≡ holder_by (table_of w s) none → Steps h (message_step h given (length b) m) b x b' → AnsweredRest calls (octets_owner (names_of (table_of w s)) m) w s w b b' x.answer
+  pub answered_nobody : (x : Step) (h : Holder) → octets_owner (names_of (table_of w s)) m ≡ None → h ≡ holder_by (table_of w s) None → Steps h (message_step h given (length b) m) b x b' → AnsweredRest calls (octets_owner (names_of (table_of w s)) m) w s w b b' x.answer
   answered_nobody x h owner held steps =
       record {
-        shows = its_table none owner h held x steps;
-        answers = its_answer none owner h held x steps;
-        replies = its_buffer none owner h held x steps;
+        shows = its_table None owner h held x steps;
+        answers = its_answer None owner h held x steps;
+        replies = its_buffer None owner h held x steps;
         refused = λ _. refl;
-        passed = not_table none owner h held x steps;
+        passed = not_table None owner h held x steps;
         kept = rw owner refl;
       }
 
-  module _ (i : ℕ) (owner : octets_owner (names_of (table_of w s)) m ≡ some i) (h : Holder) (held : h ≡ holder_by (table_of w s) (some i)) (x : Step)
+  module _ (i : ℕ) (owner : octets_owner (names_of (table_of w s)) m ≡ Some i) (h : Holder) (held : h ≡ holder_by (table_of w s) (Some i)) (x : Step)
       (steps : Steps h (message_step h given (length b) m) b x b') (w' : List ℕ) (a : Answer) (k : RowKept i x w s w' a) where
     its_pair : (x.answer.number ≡ DONE → ⊥) → pair_after (pair_at (table_of w s) i) x.after ≡ pair_at (table_of w s) i
     unfolding holder_at held_pair pair_at
-    its_pair z = quiet (some i) owner h held x steps z
+    its_pair z = quiet (Some i) owner h held x steps z
 
     row_table : (n : ℕ) → a.number ≡ n → table_of w' s ≡ with_pair (table_of w s) i (pair_after (pair_at (table_of w s) i) x.after)
     unfolding DONE
@@ -206,38 +200,38 @@ module _ (w s m : List ℕ) (given : Given) (b b' : List ℕ) where
     unfolding holder_at held_pair pair_at
     answered_row =
         record {
-          shows = row_table a.number refl ∙ its_table (some i) owner h held x steps;
-          answers = k.answers ∙ its_answer (some i) owner h held x steps;
-          replies = its_buffer (some i) owner h held x steps;
+          shows = row_table a.number refl ∙ its_table (Some i) owner h held x steps;
+          answers = k.answers ∙ its_answer (Some i) owner h held x steps;
+          replies = its_buffer (Some i) owner h held x steps;
           refused = k.refused;
-          passed = λ e. not_table (some i) owner h held x steps (sym (ap (λ (a : Answer). a.number) k.answers) ∙ e);
+          passed = λ e. not_table (Some i) owner h held x steps (sym (ap (λ (a : Answer). a.number) k.answers) ∙ e);
           kept = rw owner k.kept;
         }
 
   pub answered_found :
-      (f : Found)
-      → octets_owner (names_of (table_of w s)) m ≡ found_row f
+      (f : Option ℕ)
+      → octets_owner (names_of (table_of w s)) m ≡ f
       → (h : Holder)
-      → h ≡ holder_by (table_of w s) (found_row f)
+      → h ≡ holder_by (table_of w s) f
       → (x : Step)
       → Steps h (message_step h given (length b) m) b x b'
       → (w' : List ℕ) (a : Answer)
       → Kept f x w s w' a
       → AnsweredRest calls (octets_owner (names_of (table_of w s)) m) w s w' b b' a
-  answered_found (Row i) owner h held x steps w' a k = answered_row i owner h held x steps w' a k.says
-  answered_found (Missing g) owner h held x steps w' a k =
+  answered_found (Some i) owner h held x steps w' a k = answered_row i owner h held x steps w' a k.says
+  answered_found None owner h held x steps w' a k =
       subst (λ (v : List ℕ). AnsweredRest calls (octets_owner (names_of (table_of w s)) m) w s v b b' a) (sym k.says.1)
       (subst (λ (z : Answer). AnsweredRest calls (octets_owner (names_of (table_of w s)) m) w s w b b' z) (sym k.says.0) (answered_nobody x h owner held steps))
 
 -- ── The whole call ──────────────────────────────────────────────────────────────────────────────────────────────────
 
 own_same : (o : Option ℕ) (w : List ℕ) → OwnOf o w w
-own_same none w = refl
-own_same (some row) w = own_none row w
+own_same None w = refl
+own_same (Some row) w = own_none row w
 
 own_on : (o : Option ℕ) (w s : List ℕ) (time : ℕ) (w₁ : List ℕ) (n : ℕ) → Entered w s time w₁ n → (w' : List ℕ) → OwnOf o w₁ w' → OwnOf o w w'
-own_on none w s time w₁ n e w' k = k ∙ e.words
-own_on (some row) w s time w₁ n e w' k = own_whole row w s time w₁ n e k
+own_on None w s time w₁ n e w' k = k ∙ e.words
+own_on (Some row) w s time w₁ n e w' k = own_whole row w s time w₁ n e k
 
 names_kept : (t : Table) (time : ℕ) → names_of (with_clock t time) ≡ names_of t
 unfolding names_of with_clock
@@ -253,7 +247,7 @@ module _ (w s : List ℕ) (time : ℕ) (w₁ : List ℕ) (n : ℕ) (e : Entered 
   pub whole_refused : (n ≡ 0 → ⊥) → {a : Answer} → a ≡ (refusal n).answer → Answered whole-call (its_own w) w s w₁ b b a
   unfolding message_on time_of unchanged
   whole_refused z {a} q =
-      let is : whole-call (table_of w s) ≡ unchanged (table_of w s) n = call_refused (table_of w s) time n e.says (message given (length b) m) (ap some is-now) z in
+      let is : whole-call (table_of w s) ≡ unchanged (table_of w s) n = call_refused (table_of w s) time n e.says (message given (length b) m) (ap Some is-now) z in
       let same : w₁ ≡ w = e.refused z in
       record {
         shows = rw (same, is) refl;
@@ -268,7 +262,7 @@ module _ (w s : List ℕ) (time : ℕ) (w₁ : List ℕ) (n : ℕ) (e : Entered 
     is_rest : whole-call (table_of w s) ≡ served (table_of w₁ s) (message given (length b) m)
     unfolding message_on time_of
     is_rest =
-        call_passed (table_of w s) time n e.says (message given (length b) m) (ap some is-now) z
+        call_passed (table_of w s) time n e.says (message given (length b) m) (ap Some is-now) z
         ∙ ap (λ (t : Table). served t (message given (length b) m)) (sym (e.table z))
 
     same_own : its_own w₁ ≡ its_own w

@@ -1,23 +1,19 @@
 -- What a message call on a lent table ends with: its words are w at entry and w' at exit, its octets s, its reply buffer b and b', and it answers a. Assumes
 -- nothing.
-use Rattle.std.specs.Prelude.{ℕ, ◌+◌, ◌<◌, List, [], ◌≡◌, length, drop}
-use Rattle.std.proofs.Math.Option.{Option, none, some}
+use Rattle.std.specs.Prelude.{ℕ, ◌+◌, ◌<◌, List, [], ◌≡◌, length, drop, Option, None, Some}
 use Rattle.model.specs.declared.Answer.{Answer}
 use Rattle.model.specs.Tables.{Table, pair_at, suffix_at, with_pair}
 use Rattle.model.specs.Calls.{DONE, TABLE, Result, buffer_after}
-use Rattle.judging.specs.declared.Who.{Who}
-use Rattle.judging.specs.declared.Who.TheVariants.{Nobody, Pair as Owner}
-use Rattle.searching.specs.declared.Found.{Found}
-use Rattle.searching.specs.declared.Found.TheVariants.{Row, Missing}
 use Rattle.step.specs.declared.Step.{Step}
 use Rattle.step.specs.Steps.{pair_after}
 use Rattle.store.specs.Layout.{table_of}
 use Rattle.outcomes.specs.Ends.{Own}
+use Rattle.judging.specs.declared.Owner.{Owner}
 
 -- No word changes but the clock's and those of the pair in this row; of no pair, but the clock's.
 abbrev pub OwnOf : Option ℕ → List ℕ → List ℕ → Type 0
-OwnOf none w w' = drop 1 w' ≡ drop 1 w
-OwnOf (some row) w w' = Own row w w'
+OwnOf None w w' = drop 1 w' ≡ drop 1 w
+OwnOf (Some row) w w' = Own row w w'
 
 -- THE MESSAGE CALL, whose definition on a table is `call`, of the pair in the row `own`.
 pub record Answered (call : Table → Result) (own : Option ℕ) (w s w' b b' : List ℕ) (a : Answer) : Type 0 where
@@ -49,23 +45,23 @@ pub record RowKept (row : ℕ) (x : Step) (w s w' : List ℕ) (a : Answer) : Typ
 
 -- ── What a search found ─────────────────────────────────────────────────────────────────────────────────────────────
 
-abbrev pub FoundIn : Table → Found → Type 0
-FoundIn t (Row row) = row < length t.rows
-FoundIn t (Missing place) = Unit {0}
+abbrev pub FoundIn : Table → Option ℕ → Type 0
+FoundIn t (Some row) = row < length t.rows
+FoundIn t None = Unit {0}
 
 -- The pair of the row, with its number, and its suffix.
-abbrev pub owner_as : Table → Found → Who
-owner_as t (Row row) = Owner (row + 1) (pair_at t row)
-owner_as t (Missing place) = Nobody
+abbrev pub owner_as : Table → Option ℕ → Option Owner
+owner_as t (Some row) = Some (record { number = (row + 1); pair = (pair_at t row) })
+owner_as t None = None
 
-abbrev pub suffix_as : Table → Found → List ℕ
-suffix_as t (Row row) = suffix_at t row
-suffix_as t (Missing place) = []
+abbrev pub suffix_as : Table → Option ℕ → List ℕ
+suffix_as t (Some row) = suffix_at t row
+suffix_as t None = []
 
 -- After a step on it: of no row, every word is left.
-abbrev pub KeptBy : Found → Step → List ℕ → List ℕ → List ℕ → Answer → Type 0
-KeptBy (Row row) x w s w' a = RowKept row x w s w' a
-KeptBy (Missing place) x w s w' a = (a ≡ x.answer) × (w' ≡ w)
+abbrev pub KeptBy : Option ℕ → Step → List ℕ → List ℕ → List ℕ → Answer → Type 0
+KeptBy (Some row) x w s w' a = RowKept row x w s w' a
+KeptBy None x w s w' a = (a ≡ x.answer) × (w' ≡ w)
 
-pub record Kept (found : Found) (x : Step) (w s w' : List ℕ) (a : Answer) : Type 0 where
+pub record Kept (found : Option ℕ) (x : Step) (w s w' : List ℕ) (a : Answer) : Type 0 where
   pub says : KeptBy found x w s w' a

@@ -11,10 +11,10 @@ ghost use Rattle.outcomes.specs.Gate.{Open};
 ghost use Rattle.step.specs.Steps.{given_by, Settles};
 ghost use Rattle.server.specs.Serve.{Answered, AnsweredRest, RowKept, FoundIn, owner_as, suffix_as, Kept};
 
-use judging::Who;
+use judging::Owner;
 use model::{Answer, Verdicts};
-use searching::Found;
-use step::{After, Step};
+use outcomes::Refusal;
+use step::Step;
 
 // Stores the pair of a row as a step left it, unless the step left it as it was; a refused one does.
 fn keep_row(words: &mut [u64], suffixes: &[u8], row: usize, s: Step) -> Answer
@@ -24,8 +24,8 @@ fn keep_row(words: &mut [u64], suffixes: &[u8], row: usize, s: Step) -> Answer
     let a = s.answer;
     let after = s.after;
     match after {
-        After::Same => a,
-        After::Changed(p) => {
+        None => a,
+        Some(p) => {
             outcomes::settle(words, suffixes, row, p, a.serial);
             a
         }
@@ -33,41 +33,41 @@ fn keep_row(words: &mut [u64], suffixes: &[u8], row: usize, s: Step) -> Answer
 }
 
 // The pair of the row that a search found, with its number; nobody where it found none.
-fn owner_of(words: &[u64], suffixes: &[u8], found: Found) -> Who
+fn owner_of(words: &[u64], suffixes: &[u8], found: Option<usize>) -> Option<Owner>
     requires { (layout_rule words.now suffixes.now ≡ true) × FoundIn (table_of words.now suffixes.now) found }
     ensures { result ≡ owner_as (table_of words.now suffixes.now) found }
 {
     match found {
-        Found::Row(row) => {
+        Some(row) => {
             let pair = outcomes::pair_of(words, suffixes, row);
-            Who::Pair {
+            Some(Owner {
                 number: row as u64 + 1,
                 pair,
-            }
+            })
         }
-        Found::Missing(_) => Who::Nobody,
+        None => None,
     }
 }
 
 // Its suffix, lent; no octets where it found none.
-fn suffix_of<'a>(words: &[u64], suffixes: &'a [u8], found: Found) -> &'a [u8]
+fn suffix_of<'a>(words: &[u64], suffixes: &'a [u8], found: Option<usize>) -> &'a [u8]
     requires { (layout_rule words.now suffixes.now ≡ true) × FoundIn (table_of words.now suffixes.now) found }
     ensures { result.now ≡ suffix_as (table_of words.now suffixes.now) found }
 {
     match found {
-        Found::Row(row) => outcomes::suffix_of(words, suffixes, row),
-        Found::Missing(_) => &suffixes[..0],
+        Some(row) => outcomes::suffix_of(words, suffixes, row),
+        None => &suffixes[..0],
     }
 }
 
 // The end of a step on what a search found.
-fn keep(words: &mut [u64], suffixes: &[u8], found: Found, s: Step) -> Answer
+fn keep(words: &mut [u64], suffixes: &[u8], found: Option<usize>, s: Step) -> Answer
     requires { (layout_rule words.old suffixes.now ≡ true) × FoundIn (table_of words.old suffixes.now) found × Settles s.after s.answer.number }
     ensures { Kept found s words.old suffixes.now words.new result }
 {
     match found {
-        Found::Row(row) => keep_row(words, suffixes, row, s),
-        Found::Missing(_) => s.answer,
+        Some(row) => keep_row(words, suffixes, row, s),
+        None => s.answer,
     }
 }
 
@@ -110,11 +110,10 @@ pub fn message_ruled<'a>(
         (octets_owner (names_of (table_of words.old suffixes.now)) message.now)
         words.old suffixes.now words.new reply.old reply.new result }
 {
-    let n = outcomes::enter_ruled(words, suffixes, verdicts.now);
-    if n != 0 {
-        return outcomes::refused(n);
+    match outcomes::enter_ruled(words, suffixes, verdicts.now) {
+        Ok(()) => message_passed(words, suffixes, verdicts, message, offer, second, reply),
+        Err(refusal) => outcomes::answered(Err(refusal)),
     }
-    message_passed(words, suffixes, verdicts, message, offer, second, reply)
 }
 
 // Message: judges a message, of which the time, the MAC's verdict, the keying verdict, the offered key data and the lent KEY record are given, changes the pair that it belongs to as judging
@@ -134,7 +133,7 @@ pub fn message<'a>(
         words.old suffixes.now words.new reply.old reply.new result }
 {
     if !ruling::rules_ok(words, suffixes) {
-        return outcomes::refused(1);
+        return outcomes::answered(Err(Refusal::Table));
     }
     message_ruled(words, suffixes, verdicts, message, offer, second, reply)
 }

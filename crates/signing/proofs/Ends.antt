@@ -7,6 +7,7 @@ use native.Mathlib.Omega.{arith}
 use borrow.Author.Tests.{le-leb, lt-leb, ne_eqb}
 use lib.Dec.{leb}
 use lib.ListN.{length, length-append, length-drop, length-take}
+use Rattle.std.specs.Prelude.{Result, Ok, Err}
 use Rattle.model.specs.Octets.{be16, be32, be48, u16_at, part}
 use Rattle.model.specs.Tsig.{tsig_type, any_class}
 use Rattle.model.specs.Replies.{record_octets}
@@ -16,26 +17,27 @@ use Rattle.model.specs.Signing.{MACSIZE, Stamp, tsig_data, finished, request_dig
 use Rattle.octets.specs.Wrote.{Wrote}
 use Rattle.replies.specs.Parts.{record_front}
 use Rattle.replies.proofs.Laws.{record_octets_lem}
-use Rattle.digests.specs.declared.Assembly.{Assembly}
-use Rattle.digests.specs.Left.{Left}
+use Rattle.digests.specs.declared.Refusal.{Refusal}
+use Rattle.digests.specs.declared.Refusal.TheVariants.{Room, MacSize}
+use Rattle.digests.specs.Left.{number_of, Left}
 use Rattle.digests.proofs.Laws.{to_end}
-use Rattle.digests.proofs.Ends.{Refusal, refused, written}
-use Rattle.signing.specs.Assembling.{Fit, Passes, counted_octets}
+use Rattle.digests.proofs.Ends.{refused, refusal_numbered, written}
+use Rattle.signing.specs.Assembling.{Passes, counted_octets}
 
 -- ── Ends ────────────────────────────────────────────────────────────────────────────────────────────────────────────
 
 -- ROOM of a digest
 module _ (t : Stamp) (xs b : List ℕ) where
-  pub too_much : (r : Assembly) → 65535 < length t.other → Refusal 8 r → Left (assembled (length b) t xs) b b r
+  pub too_much : 65535 < length t.other → Left (assembled (length b) t xs) b b (Err Room)
   unfolding assembled ROOM
-  too_much r h e = rw (lt-leb (length t.other) 65535 h) (refused 8 b r e)
+  too_much h = rw (lt-leb (length t.other) 65535 h) (refused Room b)
 
   module _ (few : length t.other ≤ 65535) where
-    pub no_room : (r : Assembly) → length b < length xs → Refusal 8 r → Left (assembled (length b) t xs) b b r
+    pub no_room : length b < length xs → Left (assembled (length b) t xs) b b (Err Room)
     unfolding assembled ROOM
-    no_room r h e = rw (le-leb (length t.other) 65535 few, lt-leb (length xs) (length b) h) (refused 8 b r e)
+    no_room h = rw (le-leb (length t.other) 65535 few, lt-leb (length xs) (length b) h) (refused Room b)
 
-    pub in_room_lem : (b' : List ℕ) (end : ℕ) → Wrote xs 0 b b' end → Left (assembled (length b) t xs) b b' (record { number = 0; length = end })
+    pub in_room_lem : (b' : List ℕ) (end : ℕ) → Wrote xs 0 b b' end → Left (assembled (length b) t xs) b b' (Ok end)
     unfolding assembled
     in_room_lem b' end w = rw (le-leb (length t.other) 65535 few, le-leb (length xs) (length b) (omega arith)) (written w)
 
@@ -44,47 +46,43 @@ module _ (xs b : List ℕ) where
   abbrev sent : Assembled
   sent = check unassembled ROOM (room_for (length b) xs) (record { number = 0; octets = xs })
 
-  unsent : (r : Assembly) → room_for (length b) xs ≡ false → Refusal 8 r → Left sent b b r
+  unsent : room_for (length b) xs ≡ false → Left sent b b (Err Room)
   unfolding ROOM
-  unsent r f e = rw f (refused 8 b r e)
+  unsent f = rw f (refused Room b)
 
-  pub too_long : (r : Assembly) → 65535 < length xs → Refusal 8 r → Left sent b b r
+  pub too_long : 65535 < length xs → Left sent b b (Err Room)
   unfolding room_for
-  too_long r h e = unsent r (rw (lt-leb (length xs) 65535 h) (and-false (leb (length xs) (length b)))) e
+  too_long h = unsent (rw (lt-leb (length xs) 65535 h) (and-false (leb (length xs) (length b))))
 
-  pub too_tight : (r : Assembly) → length b < length xs → Refusal 8 r → Left sent b b r
+  pub too_tight : length b < length xs → Left sent b b (Err Room)
   unfolding room_for
-  too_tight r h e = unsent r (rw (lt-leb (length xs) (length b) h) refl) e
+  too_tight h = unsent (rw (lt-leb (length xs) (length b) h) refl)
 
-  pub fits : (b' : List ℕ) (end : ℕ) → end ≤ 65535 → Wrote xs 0 b b' end → Left sent b b' (record { number = 0; length = end })
+  pub fits : (b' : List ℕ) (end : ℕ) → end ≤ 65535 → Wrote xs 0 b b' end → Left sent b b' (Ok end)
   unfolding room_for
   fits b' end h w = rw (le-leb (length xs) (length b) (omega arith), le-leb (length xs) 65535 (omega arith)) (written w)
 
 -- ── The calls ───────────────────────────────────────────────────────────────────────────────────────────────────────
 
--- stopped by the first refusal, n
-module _ (m name : List ℕ) (t : Stamp) (n : ℕ) (p : Passes m name t.algorithm t.signed n) (h : n ≡ 0 → ⊥) (b : List ℕ) (r : Assembly) (e : Refusal n r) where
-  stops : (next : Assembled) → Left (signable m name t next) b b r
-  stops next = rw (p.says t next refl refl, ne_eqb n 0 h) (refused n b r e)
+-- stopped by the first refusal
+module _ (m name : List ℕ) (t : Stamp) (r : Refusal) (p : Passes m name t.algorithm t.signed (number_of r)) (b : List ℕ) where
+  stops : (next : Assembled) → Left (signable m name t next) b b (Err r)
+  stops next = rw (p.says t next refl refl, ne_eqb (number_of r) 0 (refusal_numbered r)) (refused r b)
 
-  pub request_stops : Left (digested_request m name t (length b)) b b r
+  pub request_stops : Left (digested_request m name t (length b)) b b (Err r)
   unfolding digested_request
   request_stops = stops _
 
-  pub reply_stops : (mac : List ℕ) → Left (digested_reply mac m name t (length b)) b b r
+  pub reply_stops : (mac : List ℕ) → Left (digested_reply mac m name t (length b)) b b (Err r)
   unfolding digested_reply
   reply_stops mac = stops _
 
-  pub finish_stops : Left (finished_in m name t (length b)) b b r
+  pub finish_stops : Left (finished_in m name t (length b)) b b (Err r)
   unfolding finished_in
   finish_stops = stops _
 
-pub passes : {m name algorithm : List ℕ} {signed n : ℕ} → Passes m name algorithm signed n → n ≡ 0
-    → Passes m name algorithm signed 0 × Fit m name algorithm signed
-passes p z = (rw z at p, p.fit z)
-
 -- behind it
-module _ (m name : List ℕ) (t : Stamp) (p : Passes m name t.algorithm t.signed 0) (b b' : List ℕ) (r : Assembly) where
+module _ (m name : List ℕ) (t : Stamp) (p : Passes m name t.algorithm t.signed 0) (b b' : List ℕ) (r : Result ℕ Refusal) where
   goes : (next : Assembled) → Left next b b' r → Left (signable m name t next) b b' r
   goes next w = rw (p.says t next refl refl) w
 
@@ -102,14 +100,14 @@ module _ (m name : List ℕ) (t : Stamp) (p : Passes m name t.algorithm t.signed
   finish_goes h w = goes _ (rw (le-leb (length t.mac) 64 h) w)
 
 -- MACSIZE
-module _ (m name : List ℕ) (t : Stamp) (p : Passes m name t.algorithm t.signed 0) (b : List ℕ) (r : Assembly) (e : Refusal 16 r) where
-  pub reply_mac_lem : (mac : List ℕ) → 64 < length mac → Left (digested_reply mac m name t (length b)) b b r
+module _ (m name : List ℕ) (t : Stamp) (p : Passes m name t.algorithm t.signed 0) (b : List ℕ) where
+  pub reply_mac_lem : (mac : List ℕ) → 64 < length mac → Left (digested_reply mac m name t (length b)) b b (Err MacSize)
   unfolding digested_reply mac_ok MACSIZE
-  reply_mac_lem mac h = goes m name t p b b r _ (rw (lt-leb (length mac) 64 h) (refused 16 b r e))
+  reply_mac_lem mac h = goes m name t p b b _ _ (rw (lt-leb (length mac) 64 h) (refused MacSize b))
 
-  pub finish_mac : 64 < length t.mac → Left (finished_in m name t (length b)) b b r
+  pub finish_mac : 64 < length t.mac → Left (finished_in m name t (length b)) b b (Err MacSize)
   unfolding finished_in mac_ok MACSIZE
-  finish_mac h = goes m name t p b b r _ (rw (lt-leb (length t.mac) 64 h) (refused 16 b r e))
+  finish_mac h = goes m name t p b b _ _ (rw (lt-leb (length t.mac) 64 h) (refused MacSize b))
 
 -- ── What is written ─────────────────────────────────────────────────────────────────────────────────────────────────
 

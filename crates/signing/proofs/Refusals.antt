@@ -4,7 +4,7 @@ use mathlib.Core.Path.{◌≡◌, refl, ap, subst, ◌∙◌}
 use mathlib.Core.Bool.{true, false, ◌&&◌}
 use mathlib.Core.List.{List}
 use native.Mathlib.Omega.{arith}
-use borrow.Author.Tests.{lt-ltb, le-ltb, eq-eqb, ne_eqb}
+use borrow.Author.Tests.{lt-ltb, le-ltb, ne_eqb}
 use lib.Dec.{ltb}
 use lib.ListN.{length}
 use Rattle.model.specs.Octets.{stops}
@@ -20,26 +20,27 @@ use Rattle.tsig.specs.declared.Signer.{Signer}
 use Rattle.tsig.specs.declared.Signer.TheVariants.{Nobody}
 use Rattle.tsig.specs.Signature.{shown}
 use Rattle.contents.specs.declared.Contents.{Contents}
-use Rattle.contents.specs.declared.Reading.{Reading}
-use Rattle.contents.specs.declared.Reading.TheVariants.{Size, Broken, Whole}
+use Rattle.std.specs.Prelude.{Result, Ok, Err}
+use Rattle.contents.specs.declared.Unread.{Unread}
+use Rattle.contents.specs.declared.Unread.TheVariants.{Size, Broken}
 use Rattle.contents.specs.Contents.{ContentsRead, ReadAs}
+use Rattle.digests.specs.declared.Refusal.{Refusal}
+use Rattle.digests.specs.Left.{number_of, refusal_of}
+use Rattle.digests.proofs.Ends.{refusal_numbered}
 use Rattle.signing.specs.Assembling.{Bare, Passes}
 use Rattle.signing.proofs.Counts.{counts_one_more}
 
 -- ── SIZE and FORMAT ─────────────────────────────────────────────────────────────────────────────────────────────────
 
-module _ (m : List ℕ) (r : Reading) (q : ReadAs m r) where
-  pub missized : r ≡ Size → Bare m 4
-  unfolding SIZE
-  missized e = let x : size_ok m ≡ false = subst (ReadAs m) e q in record { says = λ next. rw x refl; sized = λ z. absurd (omega arith) }
-
-  pub ill_formed : (place : ℕ) → r ≡ Broken place → Bare m 6
-  unfolding FORMAT
-  ill_formed place e =
+module _ (m : List ℕ) (r : Result Contents Unread) (q : ReadAs m r) where
+  pub unread : (u : Unread) → r ≡ Err u → Bare m (number_of (refusal_of u))
+  unfolding SIZE FORMAT
+  unread Size e = let x : size_ok m ≡ false = subst (ReadAs m) e q in record { says = λ next. rw x refl; sized = λ z. absurd (omega arith) }
+  unread (Broken place) e =
       let x : (size_ok m ≡ true) × (read_message m ≡ stops place) = subst (ReadAs m) e q in
       record { says = λ next. rw (x.0, x.1) refl; sized = λ z. absurd (omega arith) }
 
-  module _ (c : Contents) (e : r ≡ Whole c) where
+  module _ (c : Contents) (e : r ≡ Ok c) where
     whole : ContentsRead m c
     whole = subst (ReadAs m) e q
 
@@ -61,18 +62,19 @@ module _ (m : List ℕ) (r : Reading) (q : ReadAs m r) where
 
 -- ── NAME and TIME ───────────────────────────────────────────────────────────────────────────────────────────────────
 
-module _ (m name algorithm : List ℕ) (signed n : ℕ) (p : Bare m n) where
-  pub stopped : (n ≡ 0 → ⊥) → Passes m name algorithm signed n
+module _ (m name algorithm : List ℕ) (signed : ℕ) where
+  pub stopped : (r : Refusal) → Bare m (number_of r) → Passes m name algorithm signed (number_of r)
   unfolding signable
-  stopped h =
-      let z = ne_eqb n 0 h in
+  stopped r p =
+      let h = refusal_numbered r in
+      let z = ne_eqb (number_of r) 0 h in
       record { says = λ t next _ _. p.says _ ∙ rw z refl; fit = λ e. absurd (h e) }
 
-  module _ (z : n ≡ 0) where
+  module _ (p : Bare m 0) where
     passed : (t : Stamp) (next : Assembled) → signable m name t next
         ≡ check unassembled NAME (wire_name name && wire_name t.algorithm) (check unassembled TIME (ltb t.signed (2 ^ 48)) next)
     unfolding signable
-    passed t next = p.says _ ∙ rw (eq-eqb n 0 z) refl
+    passed t next = p.says _
 
     pub unnamed : wire_name name ≡ false → Passes m name algorithm signed 12
     unfolding NAME
@@ -92,5 +94,5 @@ module _ (m name algorithm : List ℕ) (signed n : ℕ) (p : Bare m n) where
         all_pass h =
             record {
               says = λ t next a s. passed t next ∙ rw (named, a, hashed, s, lt-ltb signed (2 ^ 48) h) refl;
-              fit = λ e. record { message = p.sized z; named = wire_short name named; hashed = wire_short algorithm hashed; timed = h };
+              fit = λ e. record { message = p.sized refl; named = wire_short name named; hashed = wire_short algorithm hashed; timed = h };
             }

@@ -9,11 +9,10 @@ ghost use Rattle.model.specs.Signing.{tsig_data, digested_request, digested_repl
 ghost use Rattle.model.specs.Received.{digested_later};
 ghost use Rattle.octets.specs.Wrote.{Wrote};
 ghost use Rattle.digests.specs.Stamps.{stamp_of};
-ghost use Rattle.digests.specs.Left.{Left};
+ghost use Rattle.digests.specs.Left.{number_in, Left};
 ghost use Rattle.signing.specs.Assembling.{Sized, Bare, Fit, Passes, counted_octets, later_in};
 
-use contents::Reading;
-use digests::{Assembly, TsigNumbers};
+use digests::{Refusal, TsigNumbers};
 use tsig::Signer;
 
 // MACSIZE: the octets that a given MAC may have.
@@ -21,45 +20,34 @@ const LONGEST_MAC: usize = 64;
 
 // ── Refusals ────────────────────────────────────────────────────────────────────────────────────────────────────────
 
-// SIZE, FORMAT of a message that is to be signed, or 0: no TSIG may stand in it yet.
-fn message_refusal(m: &[u8]) -> u64
-    ensures { Bare m.now result }
+// SIZE, FORMAT of a message that is to be signed: no TSIG may stand in it yet.
+fn message_refusal(m: &[u8]) -> Result<(), Refusal>
+    ensures { Bare m.now (number_in result) }
 {
-    match contents::read(m) {
-        Reading::Size => 4,
-        Reading::Broken { place: _ } => 6,
-        Reading::Whole(c) => {
-            let signer = c.signer;
-            match signer {
-                Signer::Nobody => 0,
-                Signer::Ill => 6,
-                Signer::Key {
-                    place: _,
-                    fields: _,
-                } => 6,
-            }
-        }
+    let c = contents::read(m)?;
+    let signer = c.signer;
+    match signer {
+        Signer::Nobody => Ok(()),
+        Signer::Ill
+        | Signer::Key {
+            place: _,
+            fields: _,
+        } => Err(Refusal::Format),
     }
 }
 
-// SIZE, FORMAT, NAME, TIME, or 0.
-fn first_refusal(m: &[u8], name: &[u8], algorithm: &[u8], signed: u64) -> u64
-    ensures { Passes m.now name.now algorithm.now signed result }
+// SIZE, FORMAT, NAME, TIME.
+fn first_refusal(m: &[u8], name: &[u8], algorithm: &[u8], signed: u64) -> Result<(), Refusal>
+    ensures { Passes m.now name.now algorithm.now signed (number_in result) }
 {
-    let n = message_refusal(m);
-    if n != 0 {
-        return n;
-    }
-    if !names::wire_name(name) {
-        return 12;
-    }
-    if !names::wire_name(algorithm) {
-        return 12;
+    message_refusal(m)?;
+    if !names::wire_name(name) || !names::wire_name(algorithm) {
+        return Err(Refusal::Name);
     }
     if 0x1_0000_0000_0000 <= signed {
-        return 2;
+        return Err(Refusal::Time);
     }
-    0
+    Ok(())
 }
 
 // ── The digest of a request ─────────────────────────────────────────────────────────────────────────────────────────
@@ -72,22 +60,18 @@ fn request_in(
     numbers: TsigNumbers,
     other: &[u8],
     out: &mut [u8],
-) -> Assembly
+) -> Result<usize, Refusal>
     requires { Passes m.now name.now algorithm.now numbers.signed 0 × Fit m.now name.now algorithm.now numbers.signed }
     ensures { (mac : List ℕ) → Left (digested_request m.now name.now (stamp_of numbers algorithm.now mac other.now)
         (length out.old)) out.old out.new result }
 {
     if 65535 < other.len() {
-        return digests::refused(8);
+        return Err(Refusal::Room);
     }
     if out.len() < m.len() + name.len() + algorithm.len() + 18 + other.len() {
-        return digests::refused(8);
+        return Err(Refusal::Room);
     }
-    let end = digests::digest_into(out, 0, m, name, algorithm, numbers, other);
-    Assembly {
-        number: 0,
-        length: end as u64,
-    }
+    Ok(digests::digest_into(out, 0, m, name, algorithm, numbers, other))
 }
 
 // The digest of a request m, which has no TSIG yet. Refused, in this order, with SIZE (4), FORMAT (6), NAME (12), TIME (2), ROOM (8).
@@ -98,14 +82,11 @@ pub fn digest_request(
     numbers: TsigNumbers,
     other: &[u8],
     out: &mut [u8],
-) -> Assembly
+) -> Result<usize, Refusal>
     ensures { (mac : List ℕ) → Left (digested_request m.now name.now (stamp_of numbers algorithm.now mac other.now)
         (length out.old)) out.old out.new result }
 {
-    let n = first_refusal(m, name, algorithm, numbers.signed);
-    if n != 0 {
-        return digests::refused(n);
-    }
+    first_refusal(m, name, algorithm, numbers.signed)?;
     request_in(m, name, algorithm, numbers, other, out)
 }
 
@@ -120,27 +101,23 @@ fn reply_in(
     numbers: TsigNumbers,
     other: &[u8],
     out: &mut [u8],
-) -> Assembly
+) -> Result<usize, Refusal>
     requires { Passes m.now name.now algorithm.now numbers.signed 0 × Fit m.now name.now algorithm.now numbers.signed }
     ensures { (own : List ℕ) → Left (digested_reply mac.now m.now name.now
         (stamp_of numbers algorithm.now own other.now) (length out.old)) out.old out.new result }
 {
     if LONGEST_MAC < mac.len() {
-        return digests::refused(16);
+        return Err(Refusal::MacSize);
     }
     if 65535 < other.len() {
-        return digests::refused(8);
+        return Err(Refusal::Room);
     }
     if out.len() < mac.len() + m.len() + name.len() + algorithm.len() + 20 + other.len() {
-        return digests::refused(8);
+        return Err(Refusal::Room);
     }
     let a = octets::u16_into(out, 0, mac.len());
     let b = octets::all_into(out, a, mac);
-    let end = digests::digest_into(out, b, m, name, algorithm, numbers, other);
-    Assembly {
-        number: 0,
-        length: end as u64,
-    }
+    Ok(digests::digest_into(out, b, m, name, algorithm, numbers, other))
 }
 
 // The digest of a reply m to a request with this MAC. Refused as above, with MACSIZE (16) before ROOM.
@@ -152,42 +129,41 @@ pub fn digest_reply(
     numbers: TsigNumbers,
     other: &[u8],
     out: &mut [u8],
-) -> Assembly
+) -> Result<usize, Refusal>
     ensures { (own : List ℕ) → Left (digested_reply mac.now m.now name.now
         (stamp_of numbers algorithm.now own other.now) (length out.old)) out.old out.new result }
 {
-    let n = first_refusal(m, name, algorithm, numbers.signed);
-    if n != 0 {
-        return digests::refused(n);
-    }
+    first_refusal(m, name, algorithm, numbers.signed)?;
     reply_in(mac, m, name, algorithm, numbers, other, out)
 }
 
 // ── The digest of a later message of a stream ───────────────────────────────────────────────────────────────────────
 
 // MACSIZE, ROOM, done, of a message that passed the refusals before. `before` may have any length, so that nothing is added to it.
-fn later_in(prior: &[u8], before: &[u8], m: &[u8], numbers: TsigNumbers, out: &mut [u8]) -> Assembly
+fn later_in(
+    prior: &[u8],
+    before: &[u8],
+    m: &[u8],
+    numbers: TsigNumbers,
+    out: &mut [u8],
+) -> Result<usize, Refusal>
     requires { Sized m.now × (numbers.signed < 2 ^ 48) }
     ensures { (algorithm mac other : List ℕ) → Left
         (later_in prior.now before.now m.now (stamp_of numbers algorithm mac other) (length out.old)) out.old out.new result }
 {
     if LONGEST_MAC < prior.len() {
-        return digests::refused(16);
+        return Err(Refusal::MacSize);
     }
     if out.len() < before.len() {
-        return digests::refused(8);
+        return Err(Refusal::Room);
     }
     if out.len() - before.len() < prior.len() + m.len() + 10 {
-        return digests::refused(8);
+        return Err(Refusal::Room);
     }
     let a = digests::prior_into(out, prior, before);
     let b = octets::u16_into(out, a, numbers.original_id as usize);
     let d = octets::all_into(out, b, &m[2..]);
-    let end = digests::signed_into(out, d, numbers);
-    Assembly {
-        number: 0,
-        length: end as u64,
-    }
+    Ok(digests::signed_into(out, d, numbers))
 }
 
 // The digest of a later message m of a stream, which has no TSIG yet (RFC 8945, 5.3.1): `prior` is the MAC of the last message that had one, `before` the
@@ -199,16 +175,13 @@ pub fn digest_later(
     m: &[u8],
     numbers: TsigNumbers,
     out: &mut [u8],
-) -> Assembly
+) -> Result<usize, Refusal>
     ensures { (algorithm mac other : List ℕ) → Left
         (digested_later prior.now before.now m.now (stamp_of numbers algorithm mac other) (length out.old)) out.old out.new result }
 {
-    let n = message_refusal(m);
-    if n != 0 {
-        return digests::refused(n);
-    }
+    message_refusal(m)?;
     if 0x1_0000_0000_0000 <= numbers.signed {
-        return digests::refused(2);
+        return Err(Refusal::Time);
     }
     later_in(prior, before, m, numbers, out)
 }
@@ -253,30 +226,26 @@ fn finish_in(
     mac: &[u8],
     other: &[u8],
     out: &mut [u8],
-) -> Assembly
+) -> Result<usize, Refusal>
     requires { Passes m.now name.now algorithm.now numbers.signed 0 × Fit m.now name.now algorithm.now numbers.signed }
     ensures { Left (finished_in m.now name.now (stamp_of numbers algorithm.now mac.now other.now)
         (length out.old)) out.old out.new result }
 {
     if LONGEST_MAC < mac.len() {
-        return digests::refused(16);
+        return Err(Refusal::MacSize);
     }
     if 65535 < other.len() {
-        return digests::refused(8);
+        return Err(Refusal::Room);
     }
     let size = m.len() + name.len() + algorithm.len() + mac.len() + 26 + other.len();
     if 65535 < size {
-        return digests::refused(8);
+        return Err(Refusal::Room);
     }
     if out.len() < size {
-        return digests::refused(8);
+        return Err(Refusal::Room);
     }
     let a = counted_into(out, m);
-    let end = tsig_into(out, a, name, algorithm, numbers, mac, other);
-    Assembly {
-        number: 0,
-        length: end as u64,
-    }
+    Ok(tsig_into(out, a, name, algorithm, numbers, mac, other))
 }
 
 // The finished message: m with a TSIG appended that has this MAC. Refused, in this order, with SIZE (4), FORMAT (6), NAME (12), TIME (2), MACSIZE (16), ROOM (8).
@@ -288,13 +257,10 @@ pub fn finish(
     mac: &[u8],
     other: &[u8],
     out: &mut [u8],
-) -> Assembly
+) -> Result<usize, Refusal>
     ensures { Left (finished_in m.now name.now (stamp_of numbers algorithm.now mac.now other.now)
         (length out.old)) out.old out.new result }
 {
-    let n = first_refusal(m, name, algorithm, numbers.signed);
-    if n != 0 {
-        return digests::refused(n);
-    }
+    first_refusal(m, name, algorithm, numbers.signed)?;
     finish_in(m, name, algorithm, numbers, mac, other, out)
 }

@@ -1,7 +1,6 @@
 -- The refusals of the signing calls, as demand 1 has the table's: 02, CR 3, "Refusals, in order: SIZE, FORMAT .., NAME .., TIME .., 16 MACSIZE .., ROOM ..".
 -- Assumes nothing.
-use Rattle.std.specs.Prelude.{ℕ, ◌≡◌, true, List, [], ◌∷◌, length}
-use Rattle.std.proofs.Math.Option.{none}
+use Rattle.std.specs.Prelude.{ℕ, ◌≡◌, true, List, [], ◌∷◌, length, None}
 use Rattle.model.specs.Calls.{SIZE, FORMAT, NAME, TIME, ROOM}
 use Rattle.model.specs.Signing.{MACSIZE, Stamp, Assembled, digested_request, digested_reply, finished_in, assembled_into, ReadBack, read_back, removed_in}
 use Rattle.guarantees.specs.Refusals.{is_one}
@@ -18,7 +17,7 @@ pub record Writes (numbers : List ℕ) (buffer : List ℕ) (a : Assembled) : Typ
 -- The call that reads a TSIG back: a refusal has none.
 pub record Reads (r : ReadBack) : Type 0 where
   pub listed : is_one r.number (0 ∷ SIZE ∷ FORMAT ∷ []) ≡ true
-  pub nothing : ¬ (r.number ≡ 0) → r.tsig ≡ none
+  pub nothing : ¬ (r.number ≡ 0) → r.tsig ≡ None
 
 pub record Refusals : Type 0 where
   pub requests : (m name : List ℕ) (t : Stamp) (buffer : List ℕ) → Writes (SIZE ∷ FORMAT ∷ NAME ∷ TIME ∷ ROOM ∷ []) buffer (digested_request m name t (length buffer))

@@ -14,7 +14,7 @@ pub fn number_into(buf: &mut [u8], at: usize, n: u64) -> usize
     ensures { (result ≤ at + 20) × Wrote (numeral n) at buf.old buf.new result }
 {
     if n == 0 {
-        return octets::u8_into(buf, at, 48);
+        return octets::u8_into(buf, at, b'0');
     }
     names::decimal_into(buf, at, n)
 }
@@ -23,7 +23,7 @@ fn hex_digit(n: u8) -> u8
     requires { n < 16 }
     ensures { result ≡ hex_digit n }
 {
-    if n < 10 { 48 + n } else { 87 + n }
+    if n < 10 { b'0' + n } else { b'a' - 10 + n }
 }
 
 // One octet in hexadecimal.
@@ -41,10 +41,8 @@ pub fn hex_into(buf: &mut [u8], at: usize, s: &[u8]) -> usize
     ensures { (result ≡ at + 2 * length s.now) × Wrote (hex_of s.now) at buf.old buf.new result }
 {
     let mut next = at;
-    let mut i: usize = 0;
-    while i < s.len() {
-        next = octet_into(buf, next, s[i]);
-        i += 1;
+    for x in s {
+        next = octet_into(buf, next, *x);
     }
     next
 }

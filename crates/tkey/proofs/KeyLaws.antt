@@ -10,9 +10,9 @@ use lib.ListN.{length}
 use Rattle.model.specs.Octets.{u16_at}
 use Rattle.model.specs.Names.{read_plain}
 use Rattle.model.specs.Tkey.{key_type, is_key_record}
-use Rattle.compression.specs.declared.Got.{Got}
-use Rattle.compression.specs.declared.Got.TheVariants.{Bad, Name}
+use Rattle.std.specs.Prelude.{Result, Err, Ok}
 use Rattle.compression.specs.Name.{NameRead}
+use Rattle.compression.specs.declared.Name.{Name}
 
 same_test : (a b c d : ℕ) → (a ≡ b → c ≡ d) → (c ≡ d → a ≡ b) → eqb a b ≡ eqb c d
 same_test a b c d to from = by (eqb c d) refl
@@ -21,12 +21,12 @@ same_test a b c d to from = by (eqb c d) refl
     by true e = eq-eqb a b (from (eqb-true c d e))
     by false e = ne_eqb a b (λ x. eqb-false c d e (to x))
 
-module _ (key out : List ℕ) (g : Got) (n : NameRead key (read_plain key 0) out g) where
-  pub key_unnamed : (place : ℕ) → g ≡ Bad place → false ≡ is_key_record key
+module _ (key out : List ℕ) (g : Result Name ℕ) (n : NameRead key (read_plain key 0) out g) where
+  pub key_unnamed : (place : ℕ) → g ≡ Err place → false ≡ is_key_record key
   unfolding is_key_record
   key_unnamed place e = simp (n.says, e)
 
-  module _ (len next : ℕ) (e : g ≡ Name len next) where
+  module _ (len next : ℕ) (e : g ≡ Ok (record { len = len; next = next })) where
     pub key_within : next ≤ length key
     key_within = rw e at n.within
 

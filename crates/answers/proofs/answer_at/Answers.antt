@@ -4,23 +4,23 @@ use Rattle.answers.proofs.AnswerLaws.{a_bad, a_within, a_ill, a_fits, a_one}
 use Rattle.answers.proofs.answer_at.Goals as goal
 
 pub part_of-d-requires : goal.part_of-d-requires
-part_of-d-requires c = a_within _ _ _ _ c.expand_record.ensures _ _ _ _ _ c.in-At.is
+part_of-d-requires c = a_within _ _ _ _ c.expand_record.ensures _ _ _ _ _ c.in-Ok.is
 
 pub fields_of-fields-requires : goal.fields_of-fields-requires
 fields_of-fields-requires c =
-    let f = a_fits _ _ _ _ c.expand_record.ensures _ _ _ _ _ c.in-At.is _ c.part_of-d.ensures.0 _
-    c.layout_of.ensures _ _ _ c.in-Fields.is in
+    let f = a_fits _ _ _ _ c.expand_record.ensures _ _ _ _ _ c.in-Ok.is _ c.part_of-d.ensures.0 _
+    c.layout_of.ensures _ _ _ c.in-Some.is in
     omega arith
 
-pub returns-in-Bad : goal.returns-in-Bad
-returns-in-Bad c = a_bad _ _ _ _ c.expand_record.ensures _ c.in-Bad.is
+pub returns-in-Err : goal.returns-in-Err
+returns-in-Err c = a_bad _ _ _ _ c.expand_record.ensures _ c.in-Err.is
 
-pub returns-in-Ill : goal.returns-in-Ill
-returns-in-Ill c =
-    a_ill _ _ _ _ c.expand_record.ensures _ _ _ _ _ c.in-At.is _ c.part_of-d.ensures.0 _
-    c.layout_of.ensures c.in-Ill.is
+pub returns-in-None : goal.returns-in-None
+returns-in-None c =
+    a_ill _ _ _ _ c.expand_record.ensures _ _ _ _ _ c.in-Ok.is _ c.part_of-d.ensures.0 _
+    c.layout_of.ensures c.in-None.is
 
-pub returns-in-Fields : goal.returns-in-Fields
-returns-in-Fields c =
-    a_one _ _ _ _ c.expand_record.ensures _ _ _ _ _ c.in-At.is _ c.part_of-d.ensures.0 _
-    c.layout_of.ensures _ _ _ c.in-Fields.is _ c.fields_of-fields.ensures
+pub returns-in-Some : goal.returns-in-Some
+returns-in-Some c =
+    a_one _ _ _ _ c.expand_record.ensures _ _ _ _ _ c.in-Ok.is _ c.part_of-d.ensures.0 _
+    c.layout_of.ensures _ _ _ c.in-Some.is _ c.fields_of-fields.ensures

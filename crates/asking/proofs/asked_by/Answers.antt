@@ -8,10 +8,10 @@ pub returns-then-not-c : goal.returns-then-not-c
 returns-then-not-c c = shows_as (by_other c.args.m.now c.args.c (not-true _ c.if-not-c.true)) (c.nothing_asked.ensures _)
 
 pub asked_with-requires : goal.asked_with-requires
-asked_with-requires c = ((tkey_fits _ c.args.c c.requires _ c.in-One.is).1, c.requires.key_fits)
+asked_with-requires c = ((tkey_fits _ c.args.c c.requires _ c.in-Some.is).1, c.requires.key_fits)
 
-pub returns-in-Nothing : goal.returns-in-Nothing
-returns-in-Nothing c = shows_as (by_nothing c.args.m.now c.args.c (not-false _ c.if-not-c.false) c.in-Nothing.is) (c.nothing_asked-in-Nothing.ensures _)
+pub returns-in-None : goal.returns-in-None
+returns-in-None c = shows_as (by_nothing c.args.m.now c.args.c (not-false _ c.if-not-c.false) c.in-None.is) (c.nothing_asked-in-None.ensures _)
 
-pub returns-in-One : goal.returns-in-One
-returns-in-One c = shows_as (by_tkey c.args.m.now c.args.c (not-false _ c.if-not-c.false) _ c.in-One.is) (c.asked_with.ensures [])
+pub returns-in-Some : goal.returns-in-Some
+returns-in-Some c = shows_as (by_tkey c.args.m.now c.args.c (not-false _ c.if-not-c.false) _ c.in-Some.is) (c.asked_with.ensures [])

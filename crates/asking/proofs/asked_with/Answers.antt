@@ -12,4 +12,4 @@ returns c =
     let m = c.args.m.now in
     let d = c.key_data-second.ensures m c.requires.1 in
     let n = c.number_named-algorithm.ensures ∙ ap number_named (c.algorithm_named-named.ensures ∙ ap algorithm_named c.part_of.ensures.0) in
-    record { says = rw (n, d.says) refl; key = c.requires.0.key; second = d.within; unkeyed = d.unkeyed; refused = λ n. absurd (n refl) }
+    record { says = rw (n, d.says) refl; within = (c.requires.0.key, d.within) }

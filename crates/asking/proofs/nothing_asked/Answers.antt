@@ -7,4 +7,4 @@ use Rattle.asking.proofs.nothing_asked.Goals as goal
 
 pub returns : goal.returns
 unfolding unasked_at part
-returns c = λ m. record { says = refl; key = omega arith; second = omega arith; unkeyed = λ _. refl; refused = λ _. refl }
+returns c = λ m. record { says = refl; within = (omega arith, tt) }

@@ -5,16 +5,16 @@ use Rattle.asking.proofs.number_named.Goals as goal
 
 pub returns-in-Sha256 : goal.returns-in-Sha256
 unfolding number_named
-returns-in-Sha256 c = rw (c.in-Known.is, c.in-Sha256.is) refl
+returns-in-Sha256 c = rw (c.in-Some.is, c.in-Sha256.is) refl
 
 pub returns-in-Sha384 : goal.returns-in-Sha384
 unfolding number_named
-returns-in-Sha384 c = rw (c.in-Known.is, c.in-Sha384.is) refl
+returns-in-Sha384 c = rw (c.in-Some.is, c.in-Sha384.is) refl
 
 pub returns-in-Sha512 : goal.returns-in-Sha512
 unfolding number_named
-returns-in-Sha512 c = rw (c.in-Known.is, c.in-Sha512.is) refl
+returns-in-Sha512 c = rw (c.in-Some.is, c.in-Sha512.is) refl
 
-pub returns-in-Unknown : goal.returns-in-Unknown
+pub returns-in-None : goal.returns-in-None
 unfolding number_named
-returns-in-Unknown c = rw c.in-Unknown.is refl
+returns-in-None c = rw c.in-None.is refl

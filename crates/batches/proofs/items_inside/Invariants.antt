@@ -1,5 +1,5 @@
 -- `batches::items_inside` meets its contract. The loop's invariant: all items lie inside where those from i on do. Assumes nothing.
-use Prim.Native.Nat.{ℕ, ◌-◌, ◌≤◌}
+use Prim.Native.Nat.{ℕ}
 use mathlib.Core.Path.{◌≡◌}
 use mathlib.Core.List.{List}
 use lib.ListN.{length}
@@ -9,7 +9,4 @@ use Rattle.batches.proofs.Laws.{rest_of}
 use Rattle.batches.proofs.items_inside.Given as goal
 
 abbrev pub invariant-loop-i : goal.invariant-loop-i
-invariant-loop-i l = (l.i ≤ l.count) × ((octets : List ℕ) → length octets ≡ l.n → items_inside octets (items_in l.items l.count) ≡ items_inside octets (rest_of l.items l.count l.i))
-
-abbrev pub decreases-loop-i : goal.decreases-loop-i
-decreases-loop-i l = l.count - l.i
+invariant-loop-i l = (octets : List ℕ) → length octets ≡ l.n → items_inside octets (items_in l.items l.count) ≡ items_inside octets (rest_of l.items l.count l.i)

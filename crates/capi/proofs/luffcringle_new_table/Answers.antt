@@ -1,6 +1,4 @@
 -- `capi::luffcringle_new_table` meets its contract. Assumes nothing.
-use mathlib.Core.Path.{◌≡◌}
-use lib.ListN.{length}
 use Rattle.capi.proofs.Laws.{new_lent}
 use borrow.Author.Rules.{rules}
 use Rattle.capi.proofs.luffcringle_new_table.Goals as goal

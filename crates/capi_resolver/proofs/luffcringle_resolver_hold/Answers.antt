@@ -10,10 +10,10 @@ returns-then-not-wire_name c = no_name _ _ _ _ _ _ (sym c.wire_name.ensures ∙ 
 pub key_named-k-requires : goal.key_named-k-requires
 key_named-k-requires c = wire_short _ (sym c.wire_name.ensures ∙ c.if-not-wire_name.false)
 
-pub returns-in-Unknown : goal.returns-in-Unknown
-returns-in-Unknown c = no_algorithm _ _ _ _ _ _ (sym c.wire_name.ensures ∙ c.if-not-wire_name.false) (sym c.algorithm_numbered.ensures ∙ c.in-Unknown.is)
+pub returns-in-None : goal.returns-in-None
+returns-in-None c = no_algorithm _ _ _ _ _ _ (sym c.wire_name.ensures ∙ c.if-not-wire_name.false) (sym c.algorithm_numbered.ensures ∙ c.in-None.is)
 
-pub returns-in-Known : goal.returns-in-Known
-returns-in-Known c =
-    holding _ _ _ _ _ _ (sym c.wire_name.ensures ∙ c.if-not-wire_name.false) _ (sym c.algorithm_numbered.ensures ∙ c.in-Known.is) _ _ _ _
+pub returns-in-Some : goal.returns-in-Some
+returns-in-Some c =
+    holding _ _ _ _ _ _ (sym c.wire_name.ensures ∙ c.if-not-wire_name.false) _ (sym c.algorithm_numbered.ensures ∙ c.in-Some.is) _ _ _ _
     c.key_named-k.ensures c.starting_with.ensures c.store.ensures

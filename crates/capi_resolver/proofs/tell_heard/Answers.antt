@@ -2,8 +2,8 @@
 use mathlib.Core.Path.{refl}
 use Rattle.capi_resolver.proofs.tell_heard.Goals as goal
 
-pub returns-in-Nothing : goal.returns-in-Nothing
-returns-in-Nothing c = rw (c.due_word-word.ensures, c.in-Nothing.is) refl
+pub returns-in-None : goal.returns-in-None
+returns-in-None c = rw (c.due_word-word.ensures, c.in-None.is) refl
 
-pub returns-in-At : goal.returns-in-At
-returns-in-At c = rw (c.due_word-word.ensures, c.in-At.is) refl
+pub returns-in-Some : goal.returns-in-Some
+returns-in-Some c = rw (c.due_word-word.ensures, c.in-Some.is) refl

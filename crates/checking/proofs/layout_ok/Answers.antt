@@ -18,12 +18,12 @@ pub loop-q-init : goal.loop-q-init
 loop-q-init c =
     let a = c.if-words-ne1091.false in
     let b = c.if-suffixes-ne8192.false in
-    (record { words = a; octets = b; short = λ r h. absurd (omega arith) }, omega arith, layout_places _ _ a b c.if-count-gt64.false ∙ simp sub-zero)
+    (record { words = a; octets = b; short = λ r h. absurd (omega arith) }, layout_places _ _ a b c.if-count-gt64.false ∙ simp sub-zero)
 
 pub returns-then-words-q-gt128 : goal.returns-then-words-q-gt128
 returns-then-words-q-gt128 c =
     let l = c.loop-q in
-    sym (l.invariant.2 ∙ all_stop _ _ l.q (omega arith) (place_long _ _ l.q c.if-words-q-gt128.true))
+    sym (l.invariant.1 ∙ all_stop _ _ l.q (omega arith) (place_long _ _ l.q c.if-words-q-gt128.true))
 
 pub fits-requires : goal.fits-requires
 fits-requires c = (passed_more c.loop-q.invariant.0 c.if-words-q-gt128.false, omega arith, omega arith)
@@ -31,14 +31,14 @@ fits-requires c = (passed_more c.loop-q.invariant.0 c.if-words-q-gt128.false, om
 pub returns-then-not-fits : goal.returns-then-not-fits
 returns-then-not-fits c =
     let l = c.loop-q in
-    sym (l.invariant.2 ∙ all_stop _ _ l.q (omega arith) (sym c.fits.ensures ∙ c.if-not-fits.true))
+    sym (l.invariant.1 ∙ all_stop _ _ l.q (omega arith) (sym c.fits.ensures ∙ c.if-not-fits.true))
 
 pub loop-q-preserved : goal.loop-q-preserved
 loop-q-preserved c =
     let l = c.loop-q in
-    (passed_more l.invariant.0 c.if-words-q-gt128.false, omega arith, l.invariant.2 ∙ all_next _ _ l.q (omega arith) (sym c.fits.ensures ∙ c.if-not-fits.false))
+    (passed_more l.invariant.0 c.if-words-q-gt128.false, l.invariant.1 ∙ all_next _ _ l.q (omega arith) (sym c.fits.ensures ∙ c.if-not-fits.false))
 
 pub returns : goal.returns
 returns c =
     let l = c.loop-q in
-    sym (l.invariant.2 ∙ all_end _ _ l.q (omega arith))
+    sym (l.invariant.1 ∙ all_end _ _ l.q (omega arith))

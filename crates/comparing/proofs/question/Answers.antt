@@ -4,19 +4,19 @@ use Rattle.comparing.proofs.question.Goals as goal
 
 pub question_fields-requires : goal.question_fields-requires
 question_fields-requires c =
-    ((rw c.in-Behind.is at c.question_at.ensures), (rw c.in-Behind-question_at-2.is at c.question_at-in-Behind.ensures))
+    ((rw c.in-Some.is at c.question_at.ensures), (rw c.in-Some-question_at-2.is at c.question_at-in-Some.ensures))
 
-pub returns-in-Nothing-question_at : goal.returns-in-Nothing-question_at
-returns-in-Nothing-question_at c =
-    both_end _ _ _ (rw c.in-Nothing.is at c.question_at.ensures)
-    (rw c.in-Nothing-question_at.is at c.question_at-in-Nothing.ensures)
+pub returns-in-None-question_at : goal.returns-in-None-question_at
+returns-in-None-question_at c =
+    both_end _ _ _ (rw c.in-None.is at c.question_at.ensures)
+    (rw c.in-None-question_at.is at c.question_at-in-None.ensures)
 
-pub returns-in-Behind-question_at : goal.returns-in-Behind-question_at
-returns-in-Behind-question_at c =
-    theirs_only _ _ _ _ _ _ (rw c.in-Nothing.is at c.question_at.ensures)
-    (question_shows _ _ _ (rw c.in-Behind-question_at.is at c.question_at-in-Nothing.ensures))
+pub returns-in-Some-question_at : goal.returns-in-Some-question_at
+returns-in-Some-question_at c =
+    theirs_only _ _ _ _ _ _ (rw c.in-None.is at c.question_at.ensures)
+    (question_shows _ _ _ (rw c.in-Some-question_at.is at c.question_at-in-None.ensures))
 
-pub returns-in-Nothing-question_at-2 : goal.returns-in-Nothing-question_at-2
-returns-in-Nothing-question_at-2 c =
-    ours_only _ _ _ _ _ _ (question_shows _ _ _ (rw c.in-Behind.is at c.question_at.ensures))
-    (rw c.in-Nothing-question_at-2.is at c.question_at-in-Behind.ensures)
+pub returns-in-None-question_at-2 : goal.returns-in-None-question_at-2
+returns-in-None-question_at-2 c =
+    ours_only _ _ _ _ _ _ (question_shows _ _ _ (rw c.in-Some.is at c.question_at.ensures))
+    (rw c.in-None-question_at-2.is at c.question_at-in-Some.ensures)

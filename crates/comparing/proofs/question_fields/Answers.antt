@@ -6,12 +6,12 @@ pub returns-then-not-same_names_at : goal.returns-then-not-same_names_at
 returns-then-not-same_names_at c =
     question_other _ _ _ _ _ _ _ c.requires.0 c.requires.1 _ c.same_names_at.ensures c.if-not-same_names_at.true
 
-pub returns-in-Nothing : goal.returns-in-Nothing
-returns-in-Nothing c =
+pub returns-in-None : goal.returns-in-None
+returns-in-None c =
     question_same _ _ _ _ _ _ _ c.requires.0 c.requires.1 _ c.same_names_at.ensures c.if-not-same_names_at.false
-    c.fields.result c.fields.ensures c.in-Nothing.is
+    c.fields.result c.fields.ensures c.in-None.is
 
-pub returns-in-At : goal.returns-in-At
-returns-in-At c =
+pub returns-in-Some : goal.returns-in-Some
+returns-in-Some c =
     question_differs _ _ _ _ _ _ _ c.requires.0 c.requires.1 _ c.same_names_at.ensures c.if-not-same_names_at.false
-    c.fields.result c.fields.ensures _ c.in-At.is
+    c.fields.result c.fields.ensures _ c.in-Some.is

@@ -4,20 +4,20 @@ use Rattle.comparing.proofs.Laws.{name_ends, record_unread, record_cut, name_sta
 use Rattle.comparing.proofs.record_at.Goals as goal
 
 pub overflow_sub-m : goal.overflow_sub-m
-overflow_sub-m c = name_ends _ _ _ _ _ c.skip_name.ensures c.in-Name.is
+overflow_sub-m c = name_ends _ _ _ _ _ c.skip_name.ensures c.in-Ok.is
 
 pub returns-then-m-next-lt10 : goal.returns-then-m-next-lt10
 returns-then-m-next-lt10 c =
-    record_cut _ _ _ c.skip_name.ensures _ _ c.in-Name.is
-    (omega (arith, name_ends _ _ _ _ _ c.skip_name.ensures c.in-Name.is))
+    record_cut _ _ _ c.skip_name.ensures _ _ c.in-Ok.is
+    (omega (arith, name_ends _ _ _ _ _ c.skip_name.ensures c.in-Ok.is))
 
 pub returns-then-m-next : goal.returns-then-m-next
 returns-then-m-next c =
-    record_cut _ _ _ c.skip_name.ensures _ _ c.in-Name.is (omega (arith, c.u16_at.ensures))
+    record_cut _ _ _ c.skip_name.ensures _ _ c.in-Ok.is (omega (arith, c.u16_at.ensures))
 
-pub returns-in-Bad : goal.returns-in-Bad
-returns-in-Bad c = record_unread _ _ _ c.skip_name.ensures _ c.in-Bad.is
+pub returns-in-Err : goal.returns-in-Err
+returns-in-Err c = record_unread _ _ _ c.skip_name.ensures _ c.in-Err.is
 
 pub returns-else-m-next : goal.returns-else-m-next
 returns-else-m-next c =
-    name_stands _ _ _ c.skip_name.ensures _ _ c.in-Name.is _ (omega (arith, c.u16_at.ensures))
+    name_stands _ _ _ c.skip_name.ensures _ _ c.in-Ok.is _ (omega (arith, c.u16_at.ensures))

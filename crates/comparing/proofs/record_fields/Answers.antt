@@ -9,21 +9,21 @@ returns-then-not-same_names_at c =
 
 pub record_data-requires : goal.record_data-requires
 record_data-requires c =
-    (omega (arith, c.requires.0.fits), omega (arith, c.requires.1.fits), same_size _ _ _ _ c.fields.result c.fields.ensures c.in-Nothing.is)
+    (omega (arith, c.requires.0.fits), omega (arith, c.requires.1.fits), same_size _ _ _ _ c.fields.result c.fields.ensures c.in-None.is)
 
-pub returns-in-At : goal.returns-in-At
-returns-in-At c =
+pub returns-in-Some : goal.returns-in-Some
+returns-in-Some c =
     record_differs _ _ _ _ _ _ _ c.requires.0 c.requires.1 _ c.same_names_at.ensures c.if-not-same_names_at.false
-    c.fields.result c.fields.ensures _ c.in-At.is
+    c.fields.result c.fields.ensures _ c.in-Some.is
 
-pub returns-in-At-record_data : goal.returns-in-At-record_data
-returns-in-At-record_data c =
+pub returns-in-Some-record_data : goal.returns-in-Some-record_data
+returns-in-Some-record_data c =
     record_data_differs _ _ _ _ _ _ _ c.requires.0 c.requires.1 _ c.same_names_at.ensures c.if-not-same_names_at.false
-    c.fields.result c.fields.ensures c.in-Nothing.is c.record_data.result
-    c.record_data.ensures _ c.in-At-record_data.is
+    c.fields.result c.fields.ensures c.in-None.is c.record_data.result
+    c.record_data.ensures _ c.in-Some-record_data.is
 
-pub returns-in-Nothing-record_data : goal.returns-in-Nothing-record_data
-returns-in-Nothing-record_data c =
+pub returns-in-None-record_data : goal.returns-in-None-record_data
+returns-in-None-record_data c =
     record_same _ _ _ _ _ _ _ c.requires.0 c.requires.1 _ c.same_names_at.ensures c.if-not-same_names_at.false
-    c.fields.result c.fields.ensures c.in-Nothing.is c.record_data.result
-    c.record_data.ensures _ c.u16_at-size.ensures.0 c.in-Nothing-record_data.is
+    c.fields.result c.fields.ensures c.in-None.is c.record_data.result
+    c.record_data.ensures _ c.u16_at-size.ensures.0 c.in-None-record_data.is

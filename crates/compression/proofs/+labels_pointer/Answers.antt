@@ -1,11 +1,11 @@
 -- What stands at a place of a run of labels, by `item_at`, and what the reading of the whole name is from there. Assumes nothing.
-use mathlib.Core.Path.{sym, ap, subst, ◌∙◌}
+use mathlib.Core.Path.{ap, ◌∙◌}
 use native.Mathlib.Omega.{arith}
 use borrow.Author.Rules.{rules}
-use lib.ListN.{length, take}
-use Rattle.model.specs.Names.{ends_at, read_on}
-use Rattle.compression.specs.Name.{item_of, NameRead}
-use Rattle.compression.proofs.Laws.{item_fine, on_fails, on_ends, on_label, on_points, chain_fails, chain_on, chain_ends}
+use lib.ListN.{length}
+use Rattle.compression.specs.Name.{item_of}
+use Rattle.std.proofs.lemmas.Result.{err_from_is_err_and}
+use Rattle.compression.proofs.Laws.{item_fine, on_fails, on_ends, on_label, on_points, chain_fails, chain_on, chain_breaks, chain_ends}
 use Rattle.compression.proofs.+labels_pointer.Goals as goal
 
 -- ── The label walker ────────────────────────────────────────────────────────────────────────────────────────────────
@@ -104,11 +104,15 @@ pointer-loop-failed-preserved t c =
     let f = item_fine a.m.now l.to l.to a.used is in
     (omega (arith, f.0), l.invariant.1, chain_on a.m.now l.out l.to a.used a.next (ap length l.invariant.1 ∙ omega arith) (omega arith) l.invariant.2 is)
 
+pub pointer-returns-in_err-len-in_default : goal.pointer-returns-in_err-len-in_default
+pointer-returns-in_err-len-in_default t c =
+    let a = c.args in
+    let l = c.loop-failed in
+    let p = err_from_is_err_and c.from_residual.result c.from_residual.ensures.1 in
+    rw (p.1, p.2) (chain_breaks a.m.now l.out l.to a.used a.next (ap length l.invariant.1 ∙ omega arith) (omega arith) l.invariant.2 c.in_err-len-in_default.ensures)
+
 pub pointer-returns-in_default : goal.pointer-returns-in_default
 pointer-returns-in_default t c =
     let a = c.args in
     let l = c.loop-failed in
-    subst
-    (NameRead a.m.now (ends_at a.next (read_on a.m.now a.target a.target (take a.used a.out.now))) c.labels.new.out)
-    (sym c.ends_at.ensures)
-    (chain_ends a.m.now l.out l.to a.used a.next (ap length l.invariant.1 ∙ omega arith) (omega arith) l.invariant.2 c.labels.result (omega arith) c.labels.ensures)
+    chain_ends a.m.now l.out l.to a.used a.next (ap length l.invariant.1 ∙ omega arith) (omega arith) l.invariant.2 (omega arith) c.in_ok-len-in_default.ensures

@@ -13,11 +13,8 @@ loop-failed-init c = writing_starts _ _ _ (search rules)
 pub returns-in-Fails : goal.returns-in-Fails
 returns-in-Fails c = writing_fails _ _ _ _ _ _ _ c.loop-failed.invariant _ (c.item_at.ensures ∙ ap item_of c.in-Fails.is)
 
-pub name_end-requires : goal.name_end-requires
-name_end-requires c = omega (arith, item_fine _ _ _ _ (c.item_at.ensures ∙ ap item_of c.in-Ends.is))
-
 pub returns-in-Ends : goal.returns-in-Ends
-returns-in-Ends c = rw c.name_end.ensures (writing_ends _ _ _ _ _ _ _ c.loop-failed.invariant (c.item_at.ensures ∙ ap item_of c.in-Ends.is))
+returns-in-Ends c = rw c.unwrap_or.ensures (writing_ends _ _ _ _ _ _ _ c.loop-failed.invariant (c.item_at.ensures ∙ ap item_of c.in-Ends.is))
 
 pub overflow_add-n : goal.overflow_add-n
 overflow_add-n c = omega (arith, item_fine _ _ _ _ (c.item_at.ensures ∙ ap item_of c.in-Label.is))
@@ -28,10 +25,16 @@ copy-requires c =
     search rules
 
 pub overflow_add-place : goal.overflow_add-place
-overflow_add-place c = omega (arith, item_fine _ _ _ _ (c.item_at.ensures ∙ ap item_of c.in-Label.is))
+overflow_add-place c = omega (arith, item_fine _ _ _ _ (c.item_at.ensures ∙ ap item_of c.in-Ends.is))
 
 pub overflow_add-place-in-Label : goal.overflow_add-place-in-Label
 overflow_add-place-in-Label c = omega (arith, item_fine _ _ _ _ (c.item_at.ensures ∙ ap item_of c.in-Label.is))
+
+pub overflow_add-place-in-Label-2 : goal.overflow_add-place-in-Label-2
+overflow_add-place-in-Label-2 c = omega (arith, item_fine _ _ _ _ (c.item_at.ensures ∙ ap item_of c.in-Label.is))
+
+pub overflow_add-place-in-Points : goal.overflow_add-place-in-Points
+overflow_add-place-in-Points c = omega (arith, item_fine _ _ _ _ (c.item_at.ensures ∙ ap item_of c.in-Points.is))
 
 pub overflow_add-len : goal.overflow_add-len
 overflow_add-len c = omega (arith, item_fine _ _ _ _ (c.item_at.ensures ∙ ap item_of c.in-Label.is))
@@ -45,11 +48,8 @@ loop-failed-smaller-in-Label c = omega (arith, item_fine _ _ _ _ (c.item_at.ensu
 pub loop-failed-preserved-in-Label : goal.loop-failed-preserved-in-Label
 loop-failed-preserved-in-Label c = writing_label _ _ _ _ _ _ _ c.loop-failed.invariant _ _ (c.item_at.ensures ∙ ap item_of c.in-Label.is) c.copy.ensures.0 c.copy.ensures.1
 
-pub first_end-next-requires : goal.first_end-next-requires
-first_end-next-requires c = omega (arith, item_fine _ _ _ _ (c.item_at.ensures ∙ ap item_of c.in-Points.is))
-
 pub loop-failed-smaller : goal.loop-failed-smaller
 loop-failed-smaller c = omega (arith, item_fine _ _ _ _ (c.item_at.ensures ∙ ap item_of c.in-Points.is))
 
 pub loop-failed-preserved : goal.loop-failed-preserved
-loop-failed-preserved c = rw c.first_end-next.ensures (writing_points _ _ _ _ _ _ _ c.loop-failed.invariant _ (c.item_at.ensures ∙ ap item_of c.in-Points.is))
+loop-failed-preserved c = rw c.unwrap_or-in-Points.ensures (writing_points _ _ _ _ _ _ _ c.loop-failed.invariant _ (c.item_at.ensures ∙ ap item_of c.in-Points.is))

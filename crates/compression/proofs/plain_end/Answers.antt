@@ -3,14 +3,11 @@ use mathlib.Core.Path.{ap, ◌∙◌}
 use native.Mathlib.Omega.{arith}
 use Rattle.compression.specs.Name.{item_of}
 use Rattle.compression.proofs.Laws.{item_fine}
-use Rattle.compression.proofs.Plain.{plainly_starts, plain_none, plainly_ends, plainly_label}
+use Rattle.compression.proofs.Plain.{plainly_starts, plainly_ends, plainly_label}
 use Rattle.compression.proofs.plain_end.Goals as goal
 
 pub loop-n-init : goal.loop-n-init
 loop-n-init c = plainly_starts _ _
-
-pub returns-in-Fails : goal.returns-in-Fails
-returns-in-Fails c = plain_none _ _
 
 pub overflow_add-result : goal.overflow_add-result
 overflow_add-result c = omega (arith, item_fine _ _ _ _ (c.item_at.ensures ∙ ap item_of c.in-Ends.is))
@@ -29,6 +26,3 @@ loop-n-smaller c = omega (arith, c.loop-n.invariant.from, item_fine _ _ _ _ (c.i
 
 pub loop-n-preserved : goal.loop-n-preserved
 loop-n-preserved c = plainly_label _ _ _ c.loop-n.invariant _ (c.item_at.ensures ∙ ap item_of c.in-Label.is)
-
-pub returns-in-Points : goal.returns-in-Points
-returns-in-Points c = plain_none _ _

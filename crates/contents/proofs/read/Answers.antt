@@ -10,7 +10,7 @@ pub returns-then-m-gt65535 : goal.returns-then-m-gt65535
 returns-then-m-gt65535 c = size_long _ c.if-m-gt65535.true
 
 pub contents_of-c-requires : goal.contents_of-c-requires
-contents_of-c-requires c = (scan_whole _ c.scan.ensures c.in-Whole.is, size_fits _ c.if-m-lt12.false c.if-m-gt65535.false)
+contents_of-c-requires c = (scan_whole _ c.scan.ensures c.in-Ok.is, size_fits _ c.if-m-lt12.false c.if-m-gt65535.false)
 
-pub returns-in-Bad : goal.returns-in-Bad
-returns-in-Bad c = (size_fits _ c.if-m-lt12.false c.if-m-gt65535.false, scan_bad _ c.scan.ensures c.in-Bad.is)
+pub returns-in-Err : goal.returns-in-Err
+returns-in-Err c = (size_fits _ c.if-m-lt12.false c.if-m-gt65535.false, scan_bad _ c.scan.ensures c.in-Err.is)

@@ -2,22 +2,22 @@ use mathlib.Core.Path.{refl}
 use Rattle.model.proofs.Forward.{key_added}
 use Rattle.entries.proofs.key_added.Goals as goal
 
-pub returns-then-adopted : goal.returns-then-adopted
+pub returns-in-Empty-true : goal.returns-in-Empty-true
 unfolding key_added
-returns-then-adopted c = rw (c.in-Empty.is, c.if-adopted.true) refl
+returns-in-Empty-true c = rw (c.in-Empty-true.is-0, c.in-Empty-true.is-1) refl
 
-pub returns-then-adopted-2 : goal.returns-then-adopted-2
+pub returns-in-Adopted-false : goal.returns-in-Adopted-false
 unfolding key_added
-returns-then-adopted-2 c = rw (c.in-Adopted.is, c.if-adopted-2.true) refl
+returns-in-Adopted-false c = rw (c.in-Adopted-false.is-0, c.in-Adopted-false.is-1) refl
 
-pub returns-else-adopted : goal.returns-else-adopted
+pub returns-in_default : goal.returns-in_default
 unfolding key_added
-returns-else-adopted c = rw (c.in-Empty.is, c.if-adopted.false) refl
+returns-in_default c = rw (c.in_default.is-0, c.in_default.is-1) refl
 
-pub returns-else-adopted-2 : goal.returns-else-adopted-2
+pub returns-in_default-2 : goal.returns-in_default-2
 unfolding key_added
-returns-else-adopted-2 c = rw (c.in-Adopted.is, c.if-adopted-2.false) refl
+returns-in_default-2 c = rw (c.in_default.is-0, c.in_default.is-1) refl
 
-pub returns-in-Renewing : goal.returns-in-Renewing
+pub returns-in_default-3 : goal.returns-in_default-3
 unfolding key_added
-returns-in-Renewing c = rw c.in-Renewing.is refl
+returns-in_default-3 c = rw c.in_default.is-0 refl

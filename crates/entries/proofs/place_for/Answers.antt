@@ -7,10 +7,10 @@ pub bounds-words-1 : goal.bounds-words-1
 bounds-words-1 c = omega (arith, (laid c.args.words.now c.args.suffixes.now c.requires).words)
 
 pub returns-then-words-ge64 : goal.returns-then-words-ge64
-returns-then-words-ge64 c = place_full _ _ _ c.requires _ c.find.ensures _ c.in-Missing.is c.if-words-ge64.true
+returns-then-words-ge64 c = place_full _ _ _ c.requires _ c.find.ensures _ c.in-Err.is c.if-words-ge64.true
 
-pub returns-in-Row : goal.returns-in-Row
-returns-in-Row c = place_twin _ _ _ c.requires _ c.find.ensures _ c.in-Row.is
+pub returns-in-Ok : goal.returns-in-Ok
+returns-in-Ok c = place_twin _ _ _ c.requires _ c.find.ensures _ c.in-Ok.is
 
 pub returns-else-words-ge64 : goal.returns-else-words-ge64
-returns-else-words-ge64 c = place_at _ _ _ c.requires _ c.find.ensures _ c.in-Missing.is c.if-words-ge64.false
+returns-else-words-ge64 c = place_at _ _ _ c.requires _ c.find.ensures _ c.in-Err.is c.if-words-ge64.false

@@ -7,10 +7,10 @@ pub returns : goal.returns
 unfolding moves_of
 returns c =
     rw (
-      c.unless_among-dropped.ensures,
-      c.unless_among-ended.ensures,
-      c.if_same-taken.ensures,
-      c.newer-made.ensures,
+      c.unless_among-4.ensures,
+      c.unless_among-3.ensures,
+      c.if_same.ensures,
+      c.max.ensures,
       c.unless_among-2.ensures,
       c.unless_among.ensures,
       c.waiting_serial-offered.ensures,

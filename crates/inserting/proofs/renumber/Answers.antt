@@ -1,34 +1,40 @@
--- `inserting::renumber` meets its contract. The loop's invariant: the map of the first i rows is renumbered. Assumes nothing.
-use Prim.Native.Nat.{◌+◌}
-use mathlib.Core.Logic.{inr}
-use mathlib.Core.Path.{◌≡◌}
+-- `inserting::renumber` meets its contract. Assumes nothing.
+use Prim.Native.Nat.{ℕ, ◌+◌, ◌-◌}
+use mathlib.Core.Path.{◌≡◌, ap, sym, ◌∙◌}
 use native.Mathlib.Omega.{arith}
-use borrow.Author.Rules.{rules}
-use Rattle.inserting.proofs.Moving.{renumbered_none, renumbered_more}
+use lib.ListN.{get_or, take, drop, length, length-drop}
+use Rattle.std.proofs.lemmas.List.{get_or-take, get_or-drop, length-take-le}
+use Rattle.store.specs.Layout.{place_of}
+use Rattle.inserting.specs.Insert.{up_from}
+use Rattle.inserting.proofs.Moving.{up_low, up_high, partly_set, renumbered}
 use Rattle.inserting.proofs.renumber.Goals as goal
+use Rattle.inserting.proofs.renumber.Goals.{then-gap-place, else-gap-place}
 
-pub loop-i-init : goal.loop-i-init
-loop-i-init c = (search rules, renumbered_none _ _)
+pub loop-place-init : goal.loop-place-init
+loop-place-init c = record {
+  done = λ i h. absurd (omega arith);
+  left = λ i h g. get_or-take (3 + c.args.n - 3) (drop 3 c.args.w.now) i 0 (omega arith) ∙ get_or-drop 3 c.args.w.now i 0;
+}
 
-pub bounds-w-i : goal.bounds-w-i
-bounds-w-i c = omega (arith, c.loop-i.invariant.1.size)
+pub overflow_add-place : goal.overflow_add-place
+overflow_add-place c =
+    let l = c.loop-place in
+    let long : length (take (3 + c.args.n - 3) (drop 3 c.args.w.now)) ≡ 3 + c.args.n - 3 = length-take-le _ (drop 3 c.args.w.now) (omega (arith, length-drop 3 c.args.w.now)) in
+    omega (arith, long, l.invariant.left l.place-index (omega arith) (omega arith), c.requires.1 l.place-index (omega arith))
 
-pub up_from-requires : goal.up_from-requires
-up_from-requires c =
-    let l = c.loop-i in
-    rw (l.invariant.1.kept (3 + l.i) (inr (omega arith))) (c.requires.1 l.i c.loop-i-test.true)
-
-pub bounds-w-i-in-loop-i : goal.bounds-w-i-in-loop-i
-bounds-w-i-in-loop-i c = omega (arith, c.loop-i.invariant.1.size)
-
-pub loop-i-preserved : goal.loop-i-preserved
-loop-i-preserved c = (omega arith, renumbered_more (omega arith) c.up_from.ensures c.loop-i.invariant.1)
-
-pub shape_of-w : goal.shape_of-w
-shape_of-w c = c.loop-i.invariant.1.size
+pub loop-place-preserved : goal.loop-place-preserved
+loop-place-preserved c =
+    let l = c.loop-place in
+    let i = l.place-index in
+    let long : length (take (3 + c.args.n - 3) (drop 3 c.args.w.now)) ≡ 3 + c.args.n - 3 = length-take-le _ (drop 3 c.args.w.now) (omega (arith, length-drop 3 c.args.w.now)) in
+    let was : get_or l.place-items i 0 ≡ place_of c.args.w.now i = l.invariant.left i (omega arith) (omega arith) in
+    elim c.if-gap-place.branch [
+      | then-gap-place w ↦ partly_set l.invariant (omega arith) w.place-items-is (ap (λ (q : ℕ). q + 1) was ∙ sym (up_high (omega arith)))
+      | else-gap-place w ↦ partly_set l.invariant (omega arith) w.place-items-is (was ∙ sym (up_low (omega arith)))
+    ]
 
 pub returns : goal.returns
 returns c =
-    let l = c.loop-i in
-    let e : l.i ≡ c.args.n = omega arith in
-    rw e at l.invariant.1
+    let long : length (take (3 + c.args.n - 3) (drop 3 c.args.w.now)) ≡ 3 + c.args.n - 3 = length-take-le _ (drop 3 c.args.w.now) (omega (arith, length-drop 3 c.args.w.now)) in
+    let e : c.loop-place.place-index ≡ c.args.n = omega arith in
+    renumbered _ _ c.requires.0 (omega arith) (omega arith) (rw e at c.loop-place.invariant)

@@ -9,19 +9,19 @@ use Rattle.judging.proofs.decide_rest.Goals as goal
 pub decide_tkey-requires : goal.decide_tkey-requires
 decide_tkey-requires c =
     let pre = c.requires in
-    let fits = rw c.in-One.is at pre.1 in
+    let fits = rw c.in-Some.is at pre.1 in
     (fits.0, fits.1, pre.2, pre.3)
 
-pub returns-in-Nothing : goal.returns-in-Nothing
+pub returns-in-None : goal.returns-in-None
 unfolding form_err
-returns-in-Nothing c =
+returns-in-None c =
     λ offer second is owner.
-    rw (c.if-c.true, c.in-Nothing.is) refl
+    rw (c.if-c.true, c.in-None.is) refl
 
-pub returns-in-One : goal.returns-in-One
-returns-in-One c =
+pub returns-in-Some : goal.returns-in-Some
+returns-in-Some c =
     λ offer second is owner.
-    rw (c.if-c.true, c.in-One.is) (c.decide_tkey.ensures offer second is)
+    rw (c.if-c.true, c.in-Some.is) (c.decide_tkey.ensures offer second is)
 
 pub returns-then-is_refused : goal.returns-then-is_refused
 unfolding step7 not_auth partial_revoke

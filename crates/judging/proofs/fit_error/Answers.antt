@@ -1,5 +1,5 @@
 -- `judging::fit_error` meets its contract. Assumes nothing.
-use Rattle.std.proofs.Common.{refl, arith}
+use Rattle.std.proofs.Common.{refl}
 use Rattle.model.specs.Judging.{form_err, bad_key}
 use Rattle.judging.proofs.Fits.{fits_all, none_needed}
 use Rattle.judging.proofs.fit_error.Goals as goal
@@ -9,13 +9,11 @@ returns-then-fits c = fits_all _ _ c.if-fits.true
 
 pub returns-in-DiffieHellman : goal.returns-in-DiffieHellman
 unfolding bad_key
-returns-in-DiffieHellman c =
-    rw (c.in-DiffieHellman.is, c.if-fits.false) (record { passes = λ e. absurd (omega (arith, e)); fails = λ _ d. refl })
+returns-in-DiffieHellman c = rw (c.in-DiffieHellman.is, c.if-fits.false) (λ d. refl)
 
 pub returns-in-ServerAssignment : goal.returns-in-ServerAssignment
-returns-in-ServerAssignment c = rw c.in-ServerAssignment.is (none_needed _)
+returns-in-ServerAssignment c = rw c.in-ServerAssignment.is (none_needed c.args.fits)
 
 pub returns-in-ResolverAssignment : goal.returns-in-ResolverAssignment
 unfolding form_err
-returns-in-ResolverAssignment c =
-    rw (c.in-ResolverAssignment.is, c.if-fits.false) (record { passes = λ e. absurd (omega (arith, e)); fails = λ _ d. refl })
+returns-in-ResolverAssignment c = rw (c.in-ResolverAssignment.is, c.if-fits.false) (λ d. refl)

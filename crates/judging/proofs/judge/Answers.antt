@@ -6,7 +6,7 @@ pub judge_signed-requires : goal.judge_signed-requires
 judge_signed-requires c =
     let pre = c.requires in
     let signer = rw c.in-Key.is at pre.0 in
-    let who = rw c.in-Pair.is at pre.2 in
+    let who = rw c.in-Some.is at pre.2 in
     (signer.1, pre.1, who, pre.3, signer.0)
 
 pub returns-then-c : goal.returns-then-c
@@ -27,14 +27,14 @@ returns-in-Ill c =
     λ offer second is.
     rw c.in-Ill.is c.unknown_by-in-Ill.ensures
 
-pub returns-in-Nobody-who : goal.returns-in-Nobody-who
+pub returns-in-None : goal.returns-in-None
 unfolding judge_read signer_of not_auth bad_key
-returns-in-Nobody-who c =
+returns-in-None c =
     λ offer second is.
-    rw (c.in-Key.is, c.in-Nobody-who.is) c.unknown_by-in-Nobody-who.ensures
+    rw (c.in-Key.is, c.in-None.is) c.unknown_by-in-None.ensures
 
-pub returns-in-Pair : goal.returns-in-Pair
+pub returns-in-Some : goal.returns-in-Some
 unfolding judge_read held_number held_suffix held_pair
-returns-in-Pair c =
+returns-in-Some c =
     λ offer second is.
-    rw (c.in-Key.is, c.in-Pair.is) (c.judge_signed.ensures offer second is)
+    rw (c.in-Key.is, c.in-Some.is) (c.judge_signed.ensures offer second is)

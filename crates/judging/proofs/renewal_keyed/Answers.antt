@@ -3,18 +3,18 @@ use Rattle.std.proofs.Common.{sym, refl, ◌∙◌}
 use Rattle.model.specs.Judging.{bad_alg}
 use Rattle.judging.proofs.renewal_keyed.Goals as goal
 
-pub returns-then-error-ne0 : goal.returns-then-error-ne0
-returns-then-error-ne0 c = λ offer is name. sym (c.fit_error-error.ensures.fails c.if-error-ne0.true _)
+pub returns-in-Some : goal.returns-in-Some
+returns-in-Some c = λ offer is name. sym ((rw c.in-Some.is at c.fit_error.ensures) _)
 
-pub returns-in-Unknown : goal.returns-in-Unknown
+pub returns-in-None : goal.returns-in-None
 unfolding bad_alg
-returns-in-Unknown c =
+returns-in-None c =
     λ offer is name.
-    let named = sym (rw c.part_of.ensures.0 at c.algorithm_named.ensures) ∙ c.in-Unknown.is in
-    sym (c.fit_error-error.ensures.passes c.if-error-ne0.false _ ∙ rw named refl)
+    let named = sym (rw c.part_of.ensures.0 at c.algorithm_named.ensures) ∙ c.in-None.is in
+    sym ((rw c.in_default.is at c.fit_error.ensures) _ ∙ rw named refl)
 
-pub returns-in-Known : goal.returns-in-Known
-returns-in-Known c =
+pub returns-in-Some-algorithm_named : goal.returns-in-Some-algorithm_named
+returns-in-Some-algorithm_named c =
     λ offer is name.
-    let named = sym (rw c.part_of.ensures.0 at c.algorithm_named.ensures) ∙ c.in-Known.is in
-    sym (c.fit_error-error.ensures.passes c.if-error-ne0.false _ ∙ rw named (sym (c.grant.ensures offer is c.args.m.now name)))
+    let named = sym (rw c.part_of.ensures.0 at c.algorithm_named.ensures) ∙ c.in-Some-algorithm_named.is in
+    sym ((rw c.in_default.is at c.fit_error.ensures) _ ∙ rw named (sym (c.grant.ensures offer is c.args.m.now name)))

@@ -3,19 +3,19 @@ use Rattle.std.proofs.Common.{sym, refl, ◌∙◌}
 use Rattle.model.specs.Judging.{form_err, bad_key, renewal_of}
 use Rattle.judging.proofs.renewal_of.Goals as goal
 
-pub returns-in-Nothing : goal.returns-in-Nothing
+pub returns-in-None : goal.returns-in-None
 unfolding renewal_of form_err
-returns-in-Nothing c =
+returns-in-None c =
     λ offer second is name.
     let own = sym c.is_old_key.ensures ∙ c.if-is_old_key.true in
-    rw (own, c.in-Nothing.is) refl
+    rw (own, c.in-None.is) refl
 
-pub returns-in-One : goal.returns-in-One
+pub returns-in-Some : goal.returns-in-Some
 unfolding renewal_of
-returns-in-One c =
+returns-in-Some c =
     λ offer second is name.
     let own = sym c.is_old_key.ensures ∙ c.if-is_old_key.true in
-    rw (own, c.in-One.is) (c.renewal_keyed.ensures offer is name)
+    rw (own, c.in-Some.is) (c.renewal_keyed.ensures offer is name)
 
 pub returns-else-is_old_key : goal.returns-else-is_old_key
 unfolding renewal_of bad_key

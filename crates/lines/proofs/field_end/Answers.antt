@@ -1,33 +1,32 @@
--- `lines::field_end` meets its contract. The loop's invariant: the field goes on from i to where it ends. Assumes nothing.
-use mathlib.Core.Path.{refl}
+-- `lines::field_end` meets its contract: the field ends where its first tab or newline stands. Assumes nothing.
+use Prim.Native.Nat.{◌-◌}
+use mathlib.Core.Path.{sym}
 use native.Mathlib.Omega.{arith}
-use Rattle.lines.proofs.Laws.{tab_here, newline_here, field_on, field_none}
-use borrow.Author.Rules.{rules}
+use lib.ListN.{length, drop, length-drop}
+use lib.Seq.{take_all}
+use Rattle.lines.proofs.Laws.{separator, field_found, field_short, found_at, found_none}
 use Rattle.lines.proofs.field_end.Goals as goal
 
-pub loop-i-init : goal.loop-i-init
-loop-i-init c = (search rules, search rules, refl)
+pub returns-in-Some : goal.returns-in-Some
+returns-in-Some c =
+    let a = c.args in
+    let s = drop a.from a.line.now in
+    let n = c.in-Some.n in
+    let whole = take_all (length a.line.now - a.from) s (rw length-drop (omega arith)) in
+    let e = sym (rw whole at c.in-Some.ensures) in
+    let f = found_at separator s n e in
+    let l = length-drop a.from a.line.now in
+    let size = field_found s in
+    record { ends = omega (arith, f.0, size); more = omega arith; within = omega (arith, f.1, l) }
 
-pub returns-then-line-i-eq9 : goal.returns-then-line-i-eq9
-returns-then-line-i-eq9 c =
-    let l = c.loop-i in
-    let size = tab_here c.args.line.now l.i (search rules) c.if-line-i-eq9.true in
-    record { ends = omega arith; more = omega arith; within = omega arith }
-
-pub returns-then-line-i-eq10 : goal.returns-then-line-i-eq10
-returns-then-line-i-eq10 c =
-    let l = c.loop-i in
-    let size = newline_here c.args.line.now l.i (search rules) c.if-line-i-eq9.false c.if-line-i-eq10.true in
-    record { ends = omega arith; more = omega arith; within = omega arith }
-
-pub loop-i-preserved : goal.loop-i-preserved
-loop-i-preserved c =
-    let l = c.loop-i in
-    let size = field_on c.args.line.now l.i (search rules) c.if-line-i-eq9.false c.if-line-i-eq10.false in
-    (omega arith, omega arith, omega arith)
-
-pub returns : goal.returns
-returns c =
-    let l = c.loop-i in
-    let size = field_none c.args.line.now l.i (omega arith) in
-    record { ends = omega arith; more = omega arith; within = omega arith }
+pub returns-in-None : goal.returns-in-None
+returns-in-None c =
+    let a = c.args in
+    let s = drop a.from a.line.now in
+    let whole = take_all (length a.line.now - a.from) s (rw length-drop (omega arith)) in
+    let e = sym (rw whole at c.in-None.ensures) in
+    let f = found_none separator s e in
+    let l = length-drop a.from a.line.now in
+    let size = field_found s in
+    let most = field_short s in
+    record { ends = omega (arith, f, size, most, l); more = omega arith; within = omega arith }

@@ -1,11 +1,7 @@
 -- `lines::first_end` meets its contract: the first field is what stands before the first separator. Assumes nothing.
 use mathlib.Core.Path.{refl, sym, ◌∙◌}
-use lib.Seq.{length-take-le}
 use Rattle.lines.proofs.Steps.{first_word}
 use Rattle.lines.proofs.first_end.Goals as goal
-
-pub slice_bounds-is_word-end : goal.slice_bounds-is_word-end
-slice_bounds-is_word-end c = sym (length-take-le _ _ c.field_end-end.ensures.within)
 
 pub returns-then-is_word : goal.returns-then-is_word
 returns-then-is_word c =

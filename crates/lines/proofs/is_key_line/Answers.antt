@@ -1,11 +1,7 @@
 -- `lines::is_key_line` meets its contract: the first field is what stands before the first separator. Assumes nothing.
-use mathlib.Core.Path.{sym, ◌∙◌}
-use lib.Seq.{length-take-le}
+use mathlib.Core.Path.{◌∙◌}
 use Rattle.lines.proofs.Steps.{key_word_lem}
 use Rattle.lines.proofs.is_key_line.Goals as goal
-
-pub slice_bounds-is_word-end : goal.slice_bounds-is_word-end
-slice_bounds-is_word-end c = sym (length-take-le _ _ c.field_end-end.ensures.within)
 
 pub returns : goal.returns
 returns c =

@@ -5,37 +5,30 @@ use Rattle.lines.specs.Fields.{last_numbers}
 use Rattle.lines.proofs.Steps.{stops, steps, ends}
 use Rattle.lines.proofs.last_numbers.Goals as goal
 
-pub returns-in_default : goal.returns-in_default
+pub returns-in_err-a : goal.returns-in_err-a
 unfolding last_numbers
-returns-in_default c = stops plain_number _ _ _ (rw c.in_default.is at c.take_number.ensures)
+returns-in_err-a c =
+    c.from_residual.ensures
+    ∙ sym (stops plain_number _ _ _ c.in_err-a.ensures)
 
-pub returns-in_default-take_number : goal.returns-in_default-take_number
+pub returns-in_err-b : goal.returns-in_err-b
 unfolding last_numbers
-returns-in_default-take_number c =
-    steps plain_number _ _ _ c.in-Is.a c.in-Is.second (rw c.in-Is.is at c.take_number.ensures)
-    ∙ stops plain_number _ _ _ (rw c.in_default-take_number.is at c.take_number-2.ensures)
+returns-in_err-b c =
+    c.from_residual-in_err-b.ensures
+    ∙ sym (steps plain_number _ _ _ c.in_ok-a.a.said c.in_ok-a.a.next c.in_ok-a.ensures ∙ stops plain_number _ _ _ c.in_err-b.ensures)
 
-pub returns-in_default-take_number-2 : goal.returns-in_default-take_number-2
+pub returns-in_err-c : goal.returns-in_err-c
 unfolding last_numbers
-returns-in_default-take_number-2 c =
-    steps plain_number _ _ _ c.in-Is.a c.in-Is.second (rw c.in-Is.is at c.take_number.ensures)
-    ∙ steps plain_number _ _ _ c.in-Is-take_number.b c.in-Is-take_number.third (rw c.in-Is-take_number.is at c.take_number-2.ensures)
-    ∙ stops plain_number _ _ _ (rw c.in_default-take_number-2.is at c.take_number-3.ensures)
+returns-in_err-c c =
+    c.from_residual-in_err-c.ensures
+    ∙ sym (steps plain_number _ _ _ c.in_ok-a.a.said c.in_ok-a.a.next c.in_ok-a.ensures ∙ steps plain_number _ _ _ c.in_ok-b.b.said c.in_ok-b.b.next c.in_ok-b.ensures ∙ stops plain_number _ _ _ c.in_err-c.ensures)
 
-pub returns-then-is_end : goal.returns-then-is_end
+pub returns-then-not-is_end : goal.returns-then-not-is_end
 unfolding last_numbers
-returns-then-is_end c =
-    steps plain_number _ _ _ c.in-Is.a c.in-Is.second (rw c.in-Is.is at c.take_number.ensures)
-    ∙ steps plain_number _ _ _ c.in-Is-take_number.b c.in-Is-take_number.third (rw c.in-Is-take_number.is at c.take_number-2.ensures)
-    ∙ steps plain_number _ _ _ c.in-Is-take_number-2.c c.in-Is-take_number-2.last (rw c.in-Is-take_number-2.is at c.take_number-3.ensures)
-    ∙ ends _ _ _
-    ∙ rw (sym c.is_end.ensures ∙ c.if-is_end.true) refl
+returns-then-not-is_end c =
+    sym (steps plain_number _ _ _ c.in_ok-a.a.said c.in_ok-a.a.next c.in_ok-a.ensures ∙ steps plain_number _ _ _ c.in_ok-b.b.said c.in_ok-b.b.next c.in_ok-b.ensures ∙ steps plain_number _ _ _ c.in_ok-c.c.said c.in_ok-c.c.next c.in_ok-c.ensures ∙ ends _ _ _ ∙ rw (sym c.is_end.ensures ∙ c.if-not-is_end.true) refl)
 
 pub returns : goal.returns
 unfolding last_numbers
 returns c =
-    steps plain_number _ _ _ c.in-Is.a c.in-Is.second (rw c.in-Is.is at c.take_number.ensures)
-    ∙ steps plain_number _ _ _ c.in-Is-take_number.b c.in-Is-take_number.third (rw c.in-Is-take_number.is at c.take_number-2.ensures)
-    ∙ steps plain_number _ _ _ c.in-Is-take_number-2.c c.in-Is-take_number-2.last (rw c.in-Is-take_number-2.is at c.take_number-3.ensures)
-    ∙ ends _ _ _
-    ∙ rw (sym c.is_end.ensures ∙ c.if-is_end.false) refl
+    sym (steps plain_number _ _ _ c.in_ok-a.a.said c.in_ok-a.a.next c.in_ok-a.ensures ∙ steps plain_number _ _ _ c.in_ok-b.b.said c.in_ok-b.b.next c.in_ok-b.ensures ∙ steps plain_number _ _ _ c.in_ok-c.c.said c.in_ok-c.c.next c.in_ok-c.ensures ∙ ends _ _ _ ∙ rw (sym c.is_end.ensures ∙ c.if-not-is_end.false) refl)

@@ -1,30 +1,30 @@
--- `lines::line_end` meets its contract. The loop's invariant: the line goes on from i to where it ends. Assumes nothing.
-use Prim.Native.Nat.{◌+◌}
-use mathlib.Core.Path.{refl}
+-- `lines::line_end` meets its contract: the line ends behind its newline, or with the text. Assumes nothing.
+use Prim.Native.Nat.{◌+◌, ◌-◌}
+use mathlib.Core.Path.{sym}
 use native.Mathlib.Omega.{arith}
-use Rattle.lines.proofs.Laws.{line_here, line_on, line_none, line_ends}
-use borrow.Author.Rules.{rules}
+use lib.ListN.{length, drop, length-drop}
+use lib.Seq.{take_all}
+use Rattle.lines.proofs.Laws.{newline, line_found, line_unended, found_at, found_none, line_ends}
 use Rattle.lines.proofs.line_end.Goals as goal
 
-pub loop-i-init : goal.loop-i-init
-loop-i-init c = (search rules, search rules, refl)
+pub returns-in-Some : goal.returns-in-Some
+returns-in-Some c =
+    let a = c.args in
+    let s = drop a.at a.text.now in
+    let n = c.in-Some.n in
+    let whole = take_all (length a.text.now - a.at) s (rw length-drop (omega arith)) in
+    let e = sym (rw whole at c.in-Some.ensures) in
+    let f = found_at newline s n e in
+    let l = length-drop a.at a.text.now in
+    let size = line_found s (omega (arith, f.0, f.1)) in
+    line_ends a.text.now a.at (a.at + n + 1) (omega arith) (omega (arith, f.1, l)) (omega (arith, size, f.0))
 
-pub returns-then-text-i-eq10 : goal.returns-then-text-i-eq10
-returns-then-text-i-eq10 c =
-    let l = c.loop-i in
-    let s = c.args.text.now in
-    let size = line_here s l.i (search rules) c.if-text-i-eq10.true in
-    line_ends s _ (l.i + 1) (omega arith) (omega arith) (omega arith)
-
-pub loop-i-preserved : goal.loop-i-preserved
-loop-i-preserved c =
-    let l = c.loop-i in
-    let size = line_on c.args.text.now l.i (search rules) c.if-text-i-eq10.false in
-    (omega arith, omega arith, omega arith)
-
-pub returns : goal.returns
-returns c =
-    let l = c.loop-i in
-    let s = c.args.text.now in
-    let size = line_none s l.i (omega arith) in
-    line_ends s _ l.i (omega arith) (omega arith) (omega arith)
+pub returns-in-None : goal.returns-in-None
+returns-in-None c =
+    let a = c.args in
+    let s = drop a.at a.text.now in
+    let whole = take_all (length a.text.now - a.at) s (rw length-drop (omega arith)) in
+    let e = sym (rw whole at c.in-None.ensures) in
+    let l = length-drop a.at a.text.now in
+    let size = line_unended s (found_none newline s e) in
+    line_ends a.text.now a.at (length a.text.now) (omega arith) (omega arith) (omega (arith, size, l))

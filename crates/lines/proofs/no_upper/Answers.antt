@@ -1,24 +1,14 @@
--- `lines::no_upper` meets its contract. The loop's invariant: no digit is in upper case if none of those left is. Assumes nothing.
-use mathlib.Core.Path.{refl, sym, ◌∙◌}
-use native.Mathlib.Omega.{arith}
-use Rattle.lines.proofs.Laws.{upper_here, upper_on, upper_none}
+-- `lines::no_upper` meets its contract. Assumes nothing.
+use mathlib.Core.Path.{◌≡◌}
+use mathlib.Core.Bool.{true, false}
 use borrow.Author.Rules.{rules}
+use borrow.Author.Tests.{tests}
+use Rattle.std.proofs.lemmas.Iterator.{cases_from_all, YieldsList-from_slice}
+use Rattle.lines.specs.Fields.{is_upper}
+use Rattle.lines.proofs.Laws.{no_upper_by}
 use Rattle.lines.proofs.no_upper.Goals as goal
-
-pub loop-i-init : goal.loop-i-init
-loop-i-init c = (search rules, refl)
-
-pub returns-then-is_upper : goal.returns-then-is_upper
-returns-then-is_upper c =
-    let l = c.loop-i in
-    sym (l.invariant.1 ∙ upper_here _ l.i (search rules) (sym c.is_upper.ensures ∙ c.if-is_upper.true))
-
-pub loop-i-preserved : goal.loop-i-preserved
-loop-i-preserved c =
-    let l = c.loop-i in
-    (search rules, l.invariant.1 ∙ upper_on _ l.i (search rules) (sym c.is_upper.ensures ∙ c.if-is_upper.false))
 
 pub returns : goal.returns
 returns c =
-    let l = c.loop-i in
-    sym (l.invariant.1 ∙ upper_none _ l.i (omega arith))
+    no_upper_by c.args.w.now c.all.result
+    (cases_from_all _ _ _ (λ x. is_upper x ≡ false) (λ x. is_upper x ≡ true) c.all.ensures.ran (YieldsList-from_slice c.args.w.now cc) (λ x q k. search (rules, tests)) (λ x q k. search (rules, tests)))

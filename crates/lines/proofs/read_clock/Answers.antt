@@ -5,37 +5,30 @@ use Rattle.model.specs.Lines.{plain_number, clock_said, read_clock}
 use Rattle.lines.proofs.Steps.{unheaded, begins, stops, steps, ends}
 use Rattle.lines.proofs.read_clock.Goals as goal
 
-pub returns-in_default : goal.returns-in_default
+pub returns-in_err-first : goal.returns-in_err-first
 unfolding read_clock
-returns-in_default c = unheaded clock_word _ clock_said (rw c.in_default.is at c.first_end.ensures)
+returns-in_err-first c =
+    c.from_residual.ensures
+    ∙ sym (unheaded clock_word _ clock_said c.in_err-first.ensures)
 
-pub returns-in_default-take_number : goal.returns-in_default-take_number
+pub returns-in_err-clock : goal.returns-in_err-clock
 unfolding read_clock
-returns-in_default-take_number c =
-    begins clock_word _ clock_said c.in-At.first (rw c.in-At.is at c.first_end.ensures)
-    ∙ stops plain_number _ _ _ (rw c.in_default-take_number.is at c.take_number.ensures)
+returns-in_err-clock c =
+    c.from_residual-in_err-clock.ensures
+    ∙ sym (begins clock_word _ clock_said c.in_ok-first.first c.in_ok-first.ensures ∙ stops plain_number _ _ _ c.in_err-clock.ensures)
 
-pub returns-in_default-take_number-2 : goal.returns-in_default-take_number-2
+pub returns-in_err-floor : goal.returns-in_err-floor
 unfolding read_clock
-returns-in_default-take_number-2 c =
-    begins clock_word _ clock_said c.in-At.first (rw c.in-At.is at c.first_end.ensures)
-    ∙ steps plain_number _ _ _ c.in-Is.clock c.in-Is.second (rw c.in-Is.is at c.take_number.ensures)
-    ∙ stops plain_number _ _ _ (rw c.in_default-take_number-2.is at c.take_number-2.ensures)
+returns-in_err-floor c =
+    c.from_residual-in_err-floor.ensures
+    ∙ sym (begins clock_word _ clock_said c.in_ok-first.first c.in_ok-first.ensures ∙ steps plain_number _ _ _ c.in_ok-clock.clock.said c.in_ok-clock.clock.next c.in_ok-clock.ensures ∙ stops plain_number _ _ _ c.in_err-floor.ensures)
 
-pub returns-then-is_end : goal.returns-then-is_end
+pub returns-then-not-is_end : goal.returns-then-not-is_end
 unfolding read_clock
-returns-then-is_end c =
-    begins clock_word _ clock_said c.in-At.first (rw c.in-At.is at c.first_end.ensures)
-    ∙ steps plain_number _ _ _ c.in-Is.clock c.in-Is.second (rw c.in-Is.is at c.take_number.ensures)
-    ∙ steps plain_number _ _ _ c.in-Is-take_number.floor c.in-Is-take_number.last (rw c.in-Is-take_number.is at c.take_number-2.ensures)
-    ∙ ends _ _ _
-    ∙ rw (sym c.is_end.ensures ∙ c.if-is_end.true) refl
+returns-then-not-is_end c =
+    sym (begins clock_word _ clock_said c.in_ok-first.first c.in_ok-first.ensures ∙ steps plain_number _ _ _ c.in_ok-clock.clock.said c.in_ok-clock.clock.next c.in_ok-clock.ensures ∙ steps plain_number _ _ _ c.in_ok-floor.floor.said c.in_ok-floor.floor.next c.in_ok-floor.ensures ∙ ends _ _ _ ∙ rw (sym c.is_end.ensures ∙ c.if-not-is_end.true) refl)
 
 pub returns : goal.returns
 unfolding read_clock
 returns c =
-    begins clock_word _ clock_said c.in-At.first (rw c.in-At.is at c.first_end.ensures)
-    ∙ steps plain_number _ _ _ c.in-Is.clock c.in-Is.second (rw c.in-Is.is at c.take_number.ensures)
-    ∙ steps plain_number _ _ _ c.in-Is-take_number.floor c.in-Is-take_number.last (rw c.in-Is-take_number.is at c.take_number-2.ensures)
-    ∙ ends _ _ _
-    ∙ rw (sym c.is_end.ensures ∙ c.if-is_end.false) refl
+    sym (begins clock_word _ clock_said c.in_ok-first.first c.in_ok-first.ensures ∙ steps plain_number _ _ _ c.in_ok-clock.clock.said c.in_ok-clock.clock.next c.in_ok-clock.ensures ∙ steps plain_number _ _ _ c.in_ok-floor.floor.said c.in_ok-floor.floor.next c.in_ok-floor.ensures ∙ ends _ _ _ ∙ rw (sym c.is_end.ensures ∙ c.if-not-is_end.false) refl)

@@ -1,6 +1,6 @@
 -- `listing::has_room` meets its contract. Assumes nothing.
 use Prim.Native.Nat.{ℕ}
-use mathlib.Core.Path.{sym, ap}
+use mathlib.Core.Path.{sym, ap, ◌∙◌}
 use native.Mathlib.Omega.{arith}
 use lib.Dec.{leb}
 use lib.ListN.{length}
@@ -33,7 +33,7 @@ pub returns-then-n-room : goal.returns-then-n-room
 returns-then-n-room c =
     let w = c.args.words.now in
     let s = c.args.suffixes.now in
-    sym (le-leb (length (listing (table_of w s))) c.args.room (omega (arith, listing_short (table_of w s) c.requires, count w s c.requires)))
+    le-leb _ _ c.if-n-room.true ∙ sym (le-leb (length (listing (table_of w s))) c.args.room (omega (arith, listing_short (table_of w s) c.requires, count w s c.requires)))
 
-pub returns : goal.returns
-returns c = ap (λ (n : ℕ). leb n c.args.room) c.size.ensures
+pub returns-else-n-room : goal.returns-else-n-room
+returns-else-n-room c = ap (λ (n : ℕ). leb n c.args.room) c.size.ensures

@@ -1,6 +1,5 @@
--- `listing::list_into` meets its contract. The loop's invariant: the first i rows stand after the clock's line. The measure is the number of rows that are left.
+-- `listing::list_into` meets its contract. The loop's invariant: the first i rows stand after the clock's line.
 -- Assumes nothing.
-use Prim.Native.Nat.{◌-◌, ◌≤◌}
 use mathlib.Core.Path.{◌≡◌}
 use lib.ListN.{length, take}
 use Rattle.model.specs.Listing.{rows_lines}
@@ -10,7 +9,4 @@ use Rattle.listing.proofs.list_into.Given as goal
 
 abbrev pub invariant-loop-i : goal.invariant-loop-i
 invariant-loop-i l =
-    (l.i ≤ l.n) × (length l.buf ≡ length l.initial.buf) × Wrote (rows_lines (take l.i (table_of l.words l.suffixes).rows)) l.initial.next l.initial.buf l.buf l.next
-
-abbrev pub decreases-loop-i : goal.decreases-loop-i
-decreases-loop-i l = l.n - l.i
+    (length l.buf ≡ length l.initial.buf) × Wrote (rows_lines (take l.i (table_of l.words l.suffixes).rows)) l.initial.next l.initial.buf l.buf l.next

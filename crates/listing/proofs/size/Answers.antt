@@ -1,5 +1,5 @@
 -- `listing::size` meets its contract. The loop's invariant: the lines of the clock and of the first i rows have this length together, at most 541 octets a row.
--- The measure is the number of rows that are left. Assumes nothing.
+-- Assumes nothing.
 use mathlib.Core.Path.{ap}
 use native.Mathlib.Omega.{arith}
 use lib.ListN.{length, length-append}
@@ -27,7 +27,7 @@ bounds-words-1 c =
 
 pub loop-i-init : goal.loop-i-init
 unfolding rows_lines
-loop-i-init c = (omega arith, omega arith, omega arith)
+loop-i-init c = (omega arith, omega arith)
 
 pub pair_of-p-requires : goal.pair_of-p-requires
 pair_of-p-requires c =
@@ -53,19 +53,13 @@ overflow_add-total c =
     let s = c.args.suffixes.now in
     record { fits = omega (arith, few w s c.requires) }
 
-pub overflow_add-i : goal.overflow_add-i
-overflow_add-i c =
-    let w = c.args.words.now in
-    let s = c.args.suffixes.now in
-    record { fits = omega (arith, few w s c.requires) }
-
 pub loop-i-preserved : goal.loop-i-preserved
 loop-i-preserved c =
     let w = c.args.words.now in
     let s = c.args.suffixes.now in
     let k = c.loop-i in
     let e = ap length (next_row w s c.requires k.i (omega arith) c.suffix_of-suffix.ensures c.pair_of-p.ensures) in
-    (omega arith, omega arith, omega (arith, rw length-append at e))
+    (omega arith, omega (arith, rw length-append at e))
 
 pub returns : goal.returns
 returns c =

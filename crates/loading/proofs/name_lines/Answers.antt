@@ -5,16 +5,16 @@ use Rattle.loading.proofs.name_lines.Goals as goal
 
 pub loop-i-init : goal.loop-i-init
 unfolding dropped_from
-loop-i-init c = (omega arith, named_none _ _)
+loop-i-init c = named_none _ _
 
 pub loop-i-preserved : goal.loop-i-preserved
 loop-i-preserved c =
     let st = c.args in
     let k = c.loop-i in
-    (omega arith, named_next st.before st.reason st.first k.i k.invariant.1 c.name_line.ensures)
+    named_next st.before st.reason st.first k.i k.invariant c.name_line.ensures
 
 pub shape_of-named : goal.shape_of-named
-shape_of-named c = c.loop-i.invariant.1.size
+shape_of-named c = c.loop-i.invariant.size
 
 pub returns : goal.returns
-returns c = named_all _ _ _ _ _ c.loop-i.invariant.1 c.loop-i.invariant.0 c.loop-i-test.false
+returns c = named_all _ _ _ _ _ c.loop-i.invariant (omega arith) (omega arith)

@@ -7,10 +7,10 @@ returns-then-not-clock_ok c =
     let a = c.args in
     below_broken a.text.now a.from a.c (sym c.clock_ok.ensures ∙ c.if-not-clock_ok.true) a.words.now a.suffixes.now a.named.now
 
-pub walk_lines-dropped-requires : goal.walk_lines-dropped-requires
-walk_lines-dropped-requires c = (c.clear.ensures.layout _ c.requires.1, c.requires.2, c.requires.3)
+pub walk_lines-requires : goal.walk_lines-requires
+walk_lines-requires c = (c.clear.ensures.layout _ c.requires.1, c.requires.2, c.requires.3)
 
 pub returns : goal.returns
 returns c =
     let a = c.args in
-    below_done a.text.now a.from a.c (sym c.clock_ok.ensures ∙ c.if-not-clock_ok.false) c.clear.ensures c.requires.1 c.walk_lines-dropped.ensures
+    below_done a.text.now a.from a.c (sym c.clock_ok.ensures ∙ c.if-not-clock_ok.false) c.clear.ensures c.requires.1 c.walk_lines.ensures

@@ -25,7 +25,7 @@ pub returns-then-not-reads_as : goal.returns-then-not-reads_as
 returns-then-not-reads_as c =
     let a = c.args in
     let k = c.loop-at in
-    unread_here a.text.now a.from k.at k.n k.invariant.4 _ c.line_end-end.ensures (sym c.reads_as.ensures.0 ∙ c.if-not-reads_as.true) k.invariant.2
+    sym (unread_here a.text.now a.from k.at k.n k.invariant.4 _ c.line_end-end.ensures (sym c.reads_as.ensures.0 ∙ c.if-not-reads_as.true) k.invariant.2)
 
 pub overflow_add-n : goal.overflow_add-n
 overflow_add-n c = omega (arith, c.line_end-end.ensures.within)
@@ -43,4 +43,4 @@ pub returns : goal.returns
 returns c =
     let a = c.args in
     let k = c.loop-at in
-    unread_end a.text.now a.from k.at k.n k.invariant.4 c.loop-at-test.false
+    sym (unread_end a.text.now a.from k.at k.n k.invariant.4 c.loop-at-test.false)

@@ -3,10 +3,10 @@ use Rattle.locating.proofs.Standing.{never_bad, written_all, standing_written, s
 use Rattle.locating.proofs.find_expanded.Goals as goal
 
 pub slice_bounds-after_label-end : goal.slice_bounds-after_label-end
-slice_bounds-after_label-end c = written_all _ _ c.expand_name.ensures c.in-Name.is
+slice_bounds-after_label-end c = written_all _ _ c.expand_name.ensures c.in-Ok.is
 
-pub returns-in-Bad : goal.returns-in-Bad
-returns-in-Bad c = absurd (never_bad _ _ c.expand_name.ensures c.requires.1 c.in-Bad.is)
+pub returns-in-Err : goal.returns-in-Err
+returns-in-Err c = absurd (never_bad _ _ c.expand_name.ensures c.requires.1 c.in-Err.is)
 
-pub returns-in-Name : goal.returns-in-Name
-returns-in-Name c = sought_after _ _ (standing_written _ _ c.expand_name.ensures c.in-Name.is) c.after_label.ensures c.find.ensures
+pub returns-in-Ok : goal.returns-in-Ok
+returns-in-Ok c = sought_after _ _ (standing_written _ _ c.expand_name.ensures c.in-Ok.is) c.after_label.ensures c.find.ensures

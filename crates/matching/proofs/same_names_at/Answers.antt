@@ -30,23 +30,23 @@ slice_bounds-pass_label-end c = omega (arith, item_fine _ _ _ _ (c.item_at.ensur
 pub pass_label-requires : goal.pass_label-requires
 pass_label-requires c = (search rules, seg_labelled _ _ _ _ _ (c.item_at.ensures ∙ ap item_of c.in-Label.is))
 
-pub returns-in-No : goal.returns-in-No
-returns-in-No c =
+pub returns-in-None : goal.returns-in-None
+returns-in-None c =
     both_other _ _ _ _ _ _ _ _ _ c.loop-k.invariant _ (c.item_at.ensures ∙ ap item_of c.in-Label.is)
-    (rw c.in-No.is at (c.pass_label.ensures c.loop-k.invariant.others c.loop-k.invariant.counted_others))
+    (rw c.in-None.is at (c.pass_label.ensures c.loop-k.invariant.others c.loop-k.invariant.counted_others))
 
 pub overflow_add-len : goal.overflow_add-len
 overflow_add-len c =
     omega (arith, item_fine _ _ _ _ (c.item_at.ensures ∙ ap item_of c.in-Label.is))
 
-pub loop-k-smaller-in-On : goal.loop-k-smaller-in-On
-loop-k-smaller-in-On c =
+pub loop-k-smaller-in-Some : goal.loop-k-smaller-in-Some
+loop-k-smaller-in-Some c =
     omega (arith, item_fine _ _ _ _ (c.item_at.ensures ∙ ap item_of c.in-Label.is))
 
-pub loop-k-preserved-in-On : goal.loop-k-preserved-in-On
-loop-k-preserved-in-On c =
+pub loop-k-preserved-in-Some : goal.loop-k-preserved-in-Some
+loop-k-preserved-in-Some c =
     both_on _ _ _ _ _ _ _ _ _ c.loop-k.invariant _ (c.item_at.ensures ∙ ap item_of c.in-Label.is) _ _
-    (rw c.in-On.is at (c.pass_label.ensures c.loop-k.invariant.others c.loop-k.invariant.counted_others))
+    (rw c.in-Some.is at (c.pass_label.ensures c.loop-k.invariant.others c.loop-k.invariant.counted_others))
 
 pub loop-k-smaller : goal.loop-k-smaller
 loop-k-smaller c = omega (arith, item_fine _ _ _ _ (c.item_at.ensures ∙ ap item_of c.in-Points.is))

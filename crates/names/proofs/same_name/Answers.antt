@@ -5,7 +5,6 @@ use mathlib.Core.List.{List}
 use mathlib.Core.Bool.{true, ◌&&◌}
 use native.Mathlib.Omega.{arith}
 use native.Mathlib.Numerals.{add-one}
-use borrow.Author.Rules.{rules}
 use lib.Dec.{eqb}
 use lib.ListN.{length, drop, get_or, drop_of_length-le}
 use lib.Seq.{drop-cons}
@@ -34,24 +33,22 @@ returns-then-same_back c =
     let a = c.args in
     sym (ap (same_name a.a.now) (sym (c.same_back.ensures c.if-same_back.true)) ∙ itself a.a.now)
 
-pub loop-i-init : goal.loop-i-init
-loop-i-init c =
-    let f = c.same_front-i in
-    (search rules, same_after _ _ f.result f.ensures.2)
+pub loop-k-init : goal.loop-k-init
+loop-k-init c = same_after _ _ c.same_front-i.result c.same_front-i.ensures.2
 
 pub returns-then-not-same_octet : goal.returns-then-not-same_octet
 returns-then-not-same_octet c =
     let a = c.args in
-    let step = c.loop-i.invariant.1 ∙ one a.a.now a.b.now c.loop-i.i (omega arith) (omega arith) in
+    let step = c.loop-k.invariant ∙ one a.a.now a.b.now c.loop-k.k (omega arith) (omega arith) in
     sym (step ∙ simp (sym c.same_octet.ensures ∙ c.if-not-same_octet.true))
 
-pub loop-i-preserved : goal.loop-i-preserved
-loop-i-preserved c =
+pub loop-k-preserved : goal.loop-k-preserved
+loop-k-preserved c =
     let a = c.args in
-    let step = c.loop-i.invariant.1 ∙ one a.a.now a.b.now c.loop-i.i (omega arith) (omega arith) in
-    (search rules, step ∙ simp (sym c.same_octet.ensures ∙ c.if-not-same_octet.false))
+    let step = c.loop-k.invariant ∙ one a.a.now a.b.now c.loop-k.k (omega arith) (omega arith) in
+    step ∙ simp (sym c.same_octet.ensures ∙ c.if-not-same_octet.false)
 
 pub returns : goal.returns
 returns c =
     let a = c.args in
-    sym (c.loop-i.invariant.1 ∙ none a.a.now a.b.now c.loop-i.i (omega arith) (omega arith))
+    sym (c.loop-k.invariant ∙ none a.a.now a.b.now c.loop-k.k (omega arith) (omega arith))

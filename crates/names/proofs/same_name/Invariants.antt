@@ -1,12 +1,8 @@
 -- `names::same_name` meets its contract. The loop's invariant: the names are the same if what is left of them is. Assumes nothing.
-use Prim.Native.Nat.{◌≤◌, ◌-◌}
 use mathlib.Core.Path.{◌≡◌}
-use lib.ListN.{length, drop}
+use lib.ListN.{drop}
 use Rattle.model.specs.Names.{same_name}
 use Rattle.names.proofs.same_name.Given as goal
 
-abbrev pub invariant-loop-i : goal.invariant-loop-i
-invariant-loop-i l = (l.i ≤ length l.a) × (same_name l.a l.b ≡ same_name (drop l.i l.a) (drop l.i l.b))
-
-abbrev pub decreases-loop-i : goal.decreases-loop-i
-decreases-loop-i l = length l.a - l.i
+abbrev pub invariant-loop-k : goal.invariant-loop-k
+invariant-loop-k l = same_name l.a l.b ≡ same_name (drop l.k l.a) (drop l.k l.b)

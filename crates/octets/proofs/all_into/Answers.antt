@@ -1,13 +1,8 @@
--- `octets::all_into` meets its contract: the tail from the place on is lent to `put_all`. Assumes nothing.
-use Prim.Native.Nat.{◌+◌}
+-- `octets::all_into` meets its contract. Assumes nothing.
 use native.Mathlib.Omega.{arith}
-use lib.ListN.{length}
-use Rattle.octets.proofs.Laws.{wrote_tail}
-use borrow.Author.Rules.{rules}
+use mathlib.Core.Path.{refl}
+use Rattle.octets.proofs.Laws.{wrote_mid}
 use Rattle.octets.proofs.all_into.Goals as goal
 
 pub returns : goal.returns
-returns c =
-    let a = c.args in
-    let w = c.put_all in
-    (search rules, wrote_tail a.s.now a.buf.now w.new.buf a.at (a.at + length a.s.now) w.ensures (omega arith) (omega arith))
+returns c = (refl, wrote_mid c.args.s.now c.args.buf.now c.args.at c.copy_from_slice.ensures.after (omega arith))

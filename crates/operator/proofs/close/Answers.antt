@@ -1,17 +1,20 @@
 -- `operator::close` meets its contract. Assumes nothing.
-use Rattle.outcomes.proofs.Laws.{serve_refused, serve_rest}
+use mathlib.Core.Path.{ap}
+use Rattle.outcomes.specs.Gate.{number_in}
+use Rattle.outcomes.proofs.Laws.{serve_refused, serve_rest, refused_number, refused_answer}
 use Rattle.operator.proofs.Laws.{close_refused, close_passes}
 use Rattle.operator.proofs.close.Goals as goal
 
-pub returns-then-n-ne0 : goal.returns-then-n-ne0
-returns-then-n-ne0 c =
-    let e = c.enter-n.ensures in
-    serve_refused _ _ _ _ _ _ e c.if-n-ne0.true c.refused.ensures (close_refused _ _ _ e.says _ c.if-n-ne0.true)
+pub returns-in-Err : goal.returns-in-Err
+returns-in-Err c =
+    let e = c.enter.ensures in
+    serve_refused _ _ _ _ _ _ e (refused_number c.in-Err.is) (refused_answer c.in-Err.is c.answered-in-Err.ensures) (close_refused _ _ _ e.says _ (refused_number c.in-Err.is))
 
 pub close_passed-requires : goal.close_passed-requires
-close_passed-requires c = (c.enter-n.ensures.passed c.if-n-ne0.false).layout
+close_passed-requires c = (c.enter.ensures.passed (ap number_in c.in-Ok.is)).layout
 
-pub returns : goal.returns
-returns c =
-    let e = c.enter-n.ensures in
-    serve_rest _ _ _ _ _ _ e _ c.if-n-ne0.false c.close_passed.ensures (close_passes _ _ _ e.says _ c.if-n-ne0.false)
+pub returns-in-Ok : goal.returns-in-Ok
+returns-in-Ok c =
+    let e = c.enter.ensures in
+    let r = c.close_passed.ensures in
+    rw c.answered.ensures (serve_rest _ _ _ _ _ _ e _ (ap number_in c.in-Ok.is) r (close_passes _ _ _ e.says _ (ap number_in c.in-Ok.is)))

@@ -1,17 +1,20 @@
 -- `operator::enrol` meets its contract. Assumes nothing.
-use Rattle.outcomes.proofs.Laws.{serve_refused, serve_rest}
+use mathlib.Core.Path.{ap}
+use Rattle.outcomes.specs.Gate.{number_in}
+use Rattle.outcomes.proofs.Laws.{serve_refused, serve_rest, refused_number, refused_answer}
 use Rattle.operator.proofs.Laws.{enrol_refused, enrol_passes}
 use Rattle.operator.proofs.enrol.Goals as goal
 
-pub returns-then-n-ne0 : goal.returns-then-n-ne0
-returns-then-n-ne0 c =
-    let e = c.enter-n.ensures in
-    serve_refused _ _ _ _ _ _ e c.if-n-ne0.true c.refused.ensures (enrol_refused _ _ _ e.says _ _ _ _ c.if-n-ne0.true)
+pub returns-in-Err : goal.returns-in-Err
+returns-in-Err c =
+    let e = c.enter.ensures in
+    serve_refused _ _ _ _ _ _ e (refused_number c.in-Err.is) (refused_answer c.in-Err.is c.answered-in-Err.ensures) (enrol_refused _ _ _ e.says _ _ _ _ (refused_number c.in-Err.is))
 
 pub enrol_passed-requires : goal.enrol_passed-requires
-enrol_passed-requires c = c.enter-n.ensures.passed c.if-n-ne0.false
+enrol_passed-requires c = c.enter.ensures.passed (ap number_in c.in-Ok.is)
 
-pub returns : goal.returns
-returns c =
-    let e = c.enter-n.ensures in
-    serve_rest _ _ _ _ _ _ e _ c.if-n-ne0.false c.enrol_passed.ensures (enrol_passes _ _ _ e.says _ _ _ _ c.if-n-ne0.false)
+pub returns-in-Ok : goal.returns-in-Ok
+returns-in-Ok c =
+    let e = c.enter.ensures in
+    let r = c.enrol_passed.ensures in
+    rw c.answered.ensures (serve_rest _ _ _ _ _ _ e _ (ap number_in c.in-Ok.is) r (enrol_passes _ _ _ e.says _ _ _ _ (ap number_in c.in-Ok.is)))

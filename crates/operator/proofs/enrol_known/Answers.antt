@@ -1,5 +1,6 @@
 -- `operator::enrol_known` meets its contract. That a row is left is found by arithmetic, so that it is the number that is proved, and not a condition's name.
 -- Assumes nothing.
+use mathlib.Core.Path.{refl}
 use Prim.Native.Nat.{◌<◌}
 use native.Mathlib.Omega.{arith}
 use lib.ListN.{get_or}
@@ -14,7 +15,7 @@ bounds-words-1 c =
     omega (arith, (laid w s c.requires.0.layout).words)
 
 pub returns-then-words-ge64 : goal.returns-then-words-ge64
-returns-then-words-ge64 c = λ n k. known_full _ _ _ _ _ n _ c.requires.1 c.requires.2 _ k _ c.find.ensures _ _ c.in-Missing.is c.requires.0 c.if-words-ge64.true c.refused-then-words-ge64.ensures
+returns-then-words-ge64 c = λ n k. known_full _ _ _ _ _ n _ c.requires.1 c.requires.2 _ k _ c.find.ensures _ _ c.in-Err.is c.requires.0 c.if-words-ge64.true refl
 
 pub bounds-words-2 : goal.bounds-words-2
 bounds-words-2 c =
@@ -25,7 +26,7 @@ bounds-words-2 c =
 pub returns-then-floor-ge4294967296 : goal.returns-then-floor-ge4294967296
 returns-then-floor-ge4294967296 c =
     let few : get_or c.args.words.now 1 0 < 64 = omega arith in
-    λ n k. known_spent _ _ _ _ _ n _ c.requires.1 c.requires.2 _ k _ c.find.ensures _ _ c.in-Missing.is c.requires.0 few c.if-floor-ge4294967296.true c.refused-then-floor-ge4294967296.ensures
+    λ n k. known_spent _ _ _ _ _ n _ c.requires.1 c.requires.2 _ k _ c.find.ensures _ _ c.in-Err.is c.requires.0 few c.if-floor-ge4294967296.true refl
 
 pub first_pair-p-requires : goal.first_pair-p-requires
 first_pair-p-requires c = (floor_rule _ _ _ c.requires.0, c.requires.2, c.requires.0.fits)
@@ -35,12 +36,12 @@ enrol_row-requires c =
     let w = c.args.words.now in
     let s = c.args.suffixes.now in
     let few : get_or c.args.words.now 1 0 < 64 = omega arith in
-    ready w s _ _ c.find.ensures _ c.in-Missing.is c.requires.0.layout few c.requires.1
+    ready w s _ _ c.find.ensures _ c.in-Err.is c.requires.0.layout few c.requires.1
 
-pub returns-in-Row : goal.returns-in-Row
-returns-in-Row c = λ n k. known_twin _ _ _ _ _ n _ c.requires.1 c.requires.2 _ k _ c.find.ensures _ c.in-Row.is c.refused.ensures
+pub returns-in_default : goal.returns-in_default
+returns-in_default c = λ n k. known_twin _ _ _ _ _ n _ c.requires.1 c.requires.2 _ k _ c.find.ensures _ c.in_default.is refl
 
-pub returns-else-floor-ge4294967296 : goal.returns-else-floor-ge4294967296
-returns-else-floor-ge4294967296 c =
+pub returns : goal.returns
+returns c =
     let few : get_or c.args.words.now 1 0 < 64 = omega arith in
-    λ n k. known_done _ _ _ _ _ n _ c.requires.1 c.requires.2 _ k _ c.find.ensures _ _ c.in-Missing.is c.requires.0 few c.if-floor-ge4294967296.false c.first_pair-p.ensures c.enrol_row.ensures
+    λ n k. known_done _ _ _ _ _ n _ c.requires.1 c.requires.2 _ k _ c.find.ensures _ _ c.in-Err.is c.requires.0 few c.if-floor-ge4294967296.false c.first_pair-p.ensures c.enrol_row.ensures

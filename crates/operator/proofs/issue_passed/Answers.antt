@@ -1,4 +1,5 @@
 -- `operator::issue_passed` meets its contract. Assumes nothing.
+use mathlib.Core.Path.{refl}
 use native.Mathlib.Omega.{arith}
 use Rattle.store.specs.Layout.{table_of}
 use Rattle.outcomes.proofs.Laws.{own_none}
@@ -8,7 +9,7 @@ use Rattle.operator.proofs.issue_passed.Goals as goal
 pub returns-then-not-is_enrolled : goal.returns-then-not-is_enrolled
 returns-then-not-is_enrolled c =
     let t = table_of c.args.words.now c.args.suffixes.now in
-    (issue_none _ _ _ _ _ _ (no_row t _ _ c.is_enrolled.ensures c.if-not-is_enrolled.true) c.refused.ensures, own_none _ _)
+    (issue_none _ _ _ _ _ _ (no_row t _ _ c.is_enrolled.ensures c.if-not-is_enrolled.true) refl, own_none _ _)
 
 pub overflow_sub-pair : goal.overflow_sub-pair
 overflow_sub-pair c =

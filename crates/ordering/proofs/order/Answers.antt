@@ -1,33 +1,31 @@
 -- `ordering::order` meets its contract. The loop's invariant: the names are ordered as what is left of them. Assumes nothing.
-use mathlib.Core.Path.{◌≡◌, sym, ap, ◌∙◌}
+use mathlib.Core.Path.{◌≡◌, refl, sym, ap, ◌∙◌}
 use native.Mathlib.Omega.{arith}
 use lib.ListN.{get_or}
+use Rattle.std.specs.Ordering.{nat_cmp}
+use Rattle.std.specs.declared.cmp.Ordering.TheVariants.{Equal}
 use Rattle.model.specs.Names.{lower_of}
-use Rattle.ordering.proofs.Laws.{order_after, step_less, step_greater, step_on, end}
+use Rattle.ordering.proofs.Laws.{order_after, order_step, order_end, cmp_same, decides, is_equal}
 use Rattle.ordering.proofs.order.Goals as goal
-use Rattle.ordering.proofs.order.Goals.{then-p-q+else-x-y+else-y-x, else-p-q}
+use Rattle.ordering.proofs.order.Goals.{then-a-i+else-is_ne, else-a-i}
 
 pub loop-i-init : goal.loop-i-init
-loop-i-init c = (omega arith, order_after _ _ c.same_front-i.result c.same_front-i.ensures.2)
+loop-i-init c = (omega arith, omega arith, order_after _ _ c.same_front-i.result c.same_front-i.ensures.2)
 
-pub returns-then-x-y : goal.returns-then-x-y
-returns-then-x-y c =
-    sym (c.loop-i.invariant.1 ∙ step_less _ _ c.loop-i.i (omega arith) (omega arith) (omega (arith, c.lower-x.ensures, c.lower-y.ensures)))
-
-pub returns-then-y-x : goal.returns-then-y-x
-returns-then-y-x c =
-    sym (c.loop-i.invariant.1 ∙ step_greater _ _ c.loop-i.i (omega arith) (omega arith) (omega (arith, c.lower-x.ensures, c.lower-y.ensures)))
+pub returns-then-is_ne : goal.returns-then-is_ne
+returns-then-is_ne c =
+    let o : c.cmp-order.result ≡ nat_cmp (lower_of (get_or c.args.a.now c.loop-i.i 0)) (lower_of (get_or c.args.b.now c.loop-i.i 0)) = cc in
+    sym (c.loop-i.invariant.2 ∙ order_step _ _ c.loop-i.i (omega arith) (omega arith) ∙ rw (← o) (decides _ _ (cc)))
 
 pub loop-i-preserved : goal.loop-i-preserved
 loop-i-preserved c =
-    let same : lower_of (get_or c.args.a.now c.loop-i.i 0) ≡ lower_of (get_or c.args.b.now c.loop-i.i 0) =
-    elim c.if-p-q.branch [
-      | then-p-q+else-x-y+else-y-x w ↦ omega (arith, w.lower-x.ensures, w.lower-y.ensures)
-      | else-p-q w ↦ ap lower_of w.if-p-q.false
+    let same : nat_cmp (lower_of (get_or c.args.a.now c.loop-i.i 0)) (lower_of (get_or c.args.b.now c.loop-i.i 0)) ≡ Equal =
+    elim c.if-a-i.branch [
+      | then-a-i+else-is_ne w ↦ is_equal _ (cc)
+      | else-a-i w ↦ cmp_same _ _ (ap lower_of w.if-a-i.false)
     ]
     in
-    (omega arith, c.loop-i.invariant.1 ∙ step_on c.args.a.now c.args.b.now c.loop-i.i (omega arith) (omega arith) same)
+    (omega arith, omega arith, c.loop-i.invariant.2 ∙ order_step _ _ c.loop-i.i (omega arith) (omega arith) ∙ rw same refl)
 
 pub returns : goal.returns
-returns c =
-    c.order_lengths.ensures ∙ sym (c.loop-i.invariant.1 ∙ end _ _ c.loop-i.i (omega arith) (omega arith) (omega arith))
+returns c = c.cmp.ensures ∙ sym (c.loop-i.invariant.2 ∙ order_end _ _ c.loop-i.i (omega arith) (omega arith) (λ p q. omega arith))

@@ -5,4 +5,4 @@ use borrow.Author.Rules.{rules}
 use Rattle.receiving.proofs.cut_into.Goals as goal
 
 pub returns : goal.returns
-returns c = (search rules, wrote_as (rw c.u16_at.ensures.0 (cut_octets _ _ c.requires.0 _)) c.renumbered_into.ensures.1)
+returns c = (search rules, wrote_as (rw c.u16_at-count.ensures.0 (cut_octets _ _ c.requires.0 _)) c.renumbered_into.ensures.1)

@@ -1,22 +1,12 @@
 -- `receiving::tsig_read` meets its contract. Assumes nothing.
-use mathlib.Core.Path.{ap}
-use Rattle.unsigning.specs.Unsigning.{tsig_in}
-use Rattle.receiving.proofs.Back.{key_stands}
+use Rattle.std.proofs.lemmas.Result.{err_from_is_err_and}
 use Rattle.receiving.proofs.Parts.{told_none, told_parts}
 use Rattle.receiving.proofs.tsig_read.Goals as goal
 
-pub parts_at-requires : goal.parts_at-requires
-parts_at-requires c = (key_stands _ _ c.read_back-back.ensures _ _ c.in-Key.is).1
+pub returns-in_err-place : goal.returns-in_err-place
+returns-in_err-place c =
+    let p = err_from_is_err_and c.from_residual.result c.from_residual.ensures.1 in
+    rw (p.1, p.2) (told_none _ _ c.read_back.ensures _ _ _ c.in_err-place.was)
 
-pub returns-in-Nobody : goal.returns-in-Nobody
-returns-in-Nobody c =
-    let a = c.args in
-    told_none a.m.now _ c.read_back-back.ensures _ _ (ap (tsig_in a.m.now) c.in-Nobody.is) _ c.no_parts.ensures
-
-pub returns-in-Ill : goal.returns-in-Ill
-returns-in-Ill c =
-    let a = c.args in
-    told_none a.m.now _ c.read_back-back.ensures _ _ (ap (tsig_in a.m.now) c.in-Ill.is) _ c.no_parts-in-Ill.ensures
-
-pub returns-in-Key : goal.returns-in-Key
-returns-in-Key c = told_parts _ _ c.read_back-back.ensures _ _ _ _ c.in-Key.is _ _ _ c.parts_at.ensures
+pub returns : goal.returns
+returns c = told_parts _ _ c.read_back.ensures _ _ _ c.in_ok-place.was _ c.part_of.ensures.0 c.name_into-named.ensures c.all_into.ensures.1

@@ -1,27 +1,28 @@
--- `removing::remap` meets its contract. The loop's invariant: the map of the first i rows is done. Assumes nothing.
-use mathlib.Core.Path.{◌≡◌}
+-- `removing::remap` meets its contract. Assumes nothing.
+use Prim.Native.Nat.{◌+◌, ◌-◌}
+use mathlib.Core.Path.{◌≡◌, refl, ap, ◌∙◌}
 use native.Mathlib.Omega.{arith}
-use Rattle.removing.proofs.Moving.{remapped_none, remapped_more}
-use borrow.Author.Rules.{rules}
+use lib.ListN.{take, drop, length, length-drop}
+use Rattle.std.proofs.lemmas.List.{get_or-take, get_or-drop, length-take-le}
+use Rattle.inserting.proofs.Moving.{partly_set}
+use Rattle.removing.specs.Remove.{down_from}
+use Rattle.removing.proofs.Moving.{remapped}
 use Rattle.removing.proofs.remap.Goals as goal
 
-pub loop-i-init : goal.loop-i-init
-loop-i-init c = (search rules, remapped_none _ _)
+pub loop-x-init : goal.loop-x-init
+loop-x-init c = record {
+  done = λ i h. absurd (omega arith);
+  left = λ i h g. get_or-take (3 + c.args.n - 3) (drop 3 c.args.w.now) i 0 (omega arith) ∙ get_or-drop 3 c.args.w.now i 0;
+}
 
-pub bounds-w-i : goal.bounds-w-i
-bounds-w-i c = omega (arith, c.loop-i.invariant.1.size)
-
-pub bounds-w-i-in-loop-i : goal.bounds-w-i-in-loop-i
-bounds-w-i-in-loop-i c = omega (arith, c.loop-i.invariant.1.size)
-
-pub loop-i-preserved : goal.loop-i-preserved
-loop-i-preserved c = (omega arith, remapped_more (omega arith) c.down_from.ensures c.loop-i.invariant.1)
-
-pub shape_of-w : goal.shape_of-w
-shape_of-w c = c.loop-i.invariant.1.size
+pub loop-x-preserved : goal.loop-x-preserved
+loop-x-preserved c =
+    let l = c.loop-x in
+    let long : length (take (3 + c.args.n - 3) (drop 3 c.args.w.now)) ≡ 3 + c.args.n - 3 = length-take-le _ (drop 3 c.args.w.now) (omega (arith, length-drop 3 c.args.w.now)) in
+    partly_set l.invariant (omega arith) refl (c.down_from.ensures ∙ ap (down_from c.args.place) (l.invariant.left l.x-index (omega arith) (omega arith)))
 
 pub returns : goal.returns
 returns c =
-    let l = c.loop-i in
-    let e : l.i ≡ c.args.n = omega arith in
-    rw e at l.invariant.1
+    let long : length (take (3 + c.args.n - 3) (drop 3 c.args.w.now)) ≡ 3 + c.args.n - 3 = length-take-le _ (drop 3 c.args.w.now) (omega (arith, length-drop 3 c.args.w.now)) in
+    let e : c.loop-x.x-index ≡ c.args.n = omega arith in
+    remapped _ _ c.requires (omega arith) (omega arith) (rw e at c.loop-x.invariant)

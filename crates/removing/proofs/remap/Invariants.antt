@@ -1,10 +1,8 @@
--- `removing::remap` meets its contract. The loop's invariant: the map of the first i rows is done. Assumes nothing.
-use Prim.Native.Nat.{◌-◌, ◌≤◌}
-use Rattle.removing.specs.Remove.{Remapped}
+-- `removing::remap` meets its contract. The loop's invariant: the places before the index are done, the others as they were. Assumes nothing.
+use Rattle.store.specs.Layout.{place_of}
+use Rattle.inserting.proofs.Moving.{Partly}
+use Rattle.removing.specs.Remove.{down_from}
 use Rattle.removing.proofs.remap.Given as goal
 
-abbrev pub invariant-loop-i : goal.invariant-loop-i
-invariant-loop-i l = (l.i ≤ l.n) × Remapped l.place l.i l.initial.w l.w
-
-abbrev pub decreases-loop-i : goal.decreases-loop-i
-decreases-loop-i l = l.n - l.i
+abbrev pub invariant-loop-x : goal.invariant-loop-x
+invariant-loop-x l = Partly (down_from l.place) (place_of l.fn.w) l.n l.x-index l.x-items

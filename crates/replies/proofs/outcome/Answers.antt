@@ -13,20 +13,20 @@ slice_bounds-owner-end c = let o = c.name_at-n.ensures in search rules
 
 pub part_of-key-requires : goal.part_of-key-requires
 part_of-key-requires c =
-    outcome_key c.requires.0 _ _ c.in-One.is
+    outcome_key c.requires.0 _ _ c.in-Some.is
 
 pub repeated-requires : goal.repeated-requires
 repeated-requires c =
     let r = read_so c.requires.0 in
-    let key = outcome_key c.requires.0 _ _ c.in-One.is in
-    let fields = outcome_in c.requires.0 _ _ c.in-One.is c.args.error c.args.again _ c.other_data-other.ensures _ c.answering-t.ensures c.requires.1 in
+    let key = outcome_key c.requires.0 _ _ c.in-Some.is in
+    let fields = outcome_in c.requires.0 _ _ c.in-Some.is c.args.error c.args.again _ c.other_data-other.ensures _ c.answering-t.ensures c.requires.1 in
     (r, fields, lent_short _ _ c.name_at-n.ensures.short, omega (arith, c.part_of-key.ensures.1, key, r.size))
 
-pub returns-in-Nothing : goal.returns-in-Nothing
-returns-in-Nothing c =
+pub returns-in-None : goal.returns-in-None
+returns-in-None c =
     let a = c.args in
-    no_outcome a.m.now a.c a.buf.now a.error a.again c.in-Nothing.is
+    no_outcome a.m.now a.c a.buf.now a.error a.again c.in-None.is
 
-pub returns-in-One : goal.returns-in-One
-returns-in-One c =
-    outcome_answers c.requires.0 _ _ c.in-One.is c.args.error c.args.again _ c.other_data-other.ensures _ c.answering-t.ensures c.requires.1 _ _ (out_lent c.name_at-n.ensures) c.part_of-key.ensures.0 c.repeated.ensures c.by_length.ensures
+pub returns-in-Some : goal.returns-in-Some
+returns-in-Some c =
+    outcome_answers c.requires.0 _ _ c.in-Some.is c.args.error c.args.again _ c.other_data-other.ensures _ c.answering-t.ensures c.requires.1 _ _ (out_lent c.name_at-n.ensures) c.part_of-key.ensures.0 c.repeated.ensures

@@ -8,33 +8,33 @@ use Rattle.replies.proofs.renewal.Goals as goal
 pub slice_bounds-echoed-end : goal.slice_bounds-echoed-end
 slice_bounds-echoed-end c = sym c.name_at-n.ensures.room
 
-pub slice_bounds-grant_reply-end-in-One-one : goal.slice_bounds-grant_reply-end-in-One-one
-slice_bounds-grant_reply-end-in-One-one c = let o = c.name_at-n.ensures in search rules
+pub slice_bounds-grant_reply-end-in-Some-one : goal.slice_bounds-grant_reply-end-in-Some-one
+slice_bounds-grant_reply-end-in-Some-one c = let o = c.name_at-n.ensures in search rules
 
 pub grant_reply-requires : goal.grant_reply-requires
 grant_reply-requires c =
     let a = c.args in
     let x = c.requires.0 in (
       read_so x,
-      renewal_in x _ _ c.in-One.is _ _ c.in-One-one.is a.at.pair a.at.time _ c.granting-t.ensures,
-      echo_in x _ _ c.in-One.is _ _ c.in-One-one.is,
+      renewal_in x _ _ c.in-Some.is _ _ c.in-Some-one.is a.at.pair a.at.time _ c.granting-t.ensures,
+      echo_in x _ _ c.in-Some.is _ _ c.in-Some-one.is,
       c.answer_count.ensures.1,
       lent_short c.key_name-k.result _ (omega (arith, c.key_name-k.ensures.0, c.requires)),
       omega (arith, c.requires.4),
       lent_short _ _ c.name_at-n.ensures.short,
     )
 
-pub returns-in-Nothing : goal.returns-in-Nothing
-returns-in-Nothing c =
+pub returns-in-None : goal.returns-in-None
+returns-in-None c =
     let a = c.args in
-    no_renewal a.m.now a.c a.buf.now a.scheme a.offer.now a.second.now a.at.pair a.suffix.now a.at.time c.in-Nothing.is
+    no_renewal a.m.now a.c a.buf.now a.scheme a.offer.now a.second.now a.at.pair a.suffix.now a.at.time c.in-None.is
 
-pub returns-in-Nothing-one : goal.returns-in-Nothing-one
-returns-in-Nothing-one c =
+pub returns-in-None-one : goal.returns-in-None-one
+returns-in-None-one c =
     let a = c.args in
-    no_echo a.m.now a.c a.buf.now a.scheme a.offer.now a.second.now a.at.pair a.suffix.now a.at.time _ _ c.in-One.is c.in-Nothing-one.is
+    no_echo a.m.now a.c a.buf.now a.scheme a.offer.now a.second.now a.at.pair a.suffix.now a.at.time _ _ c.in-Some.is c.in-None-one.is
 
-pub returns-in-One-one : goal.returns-in-One-one
-returns-in-One-one c =
+pub returns-in-Some-one : goal.returns-in-Some-one
+returns-in-Some-one c =
     let a = c.args in
-    renewal_answers c.requires.0 _ _ c.in-One.is _ _ c.in-One-one.is a.at.pair a.at.time _ c.granting-t.ensures a.scheme _ _ _ _ _ a.suffix.now c.answer_count.ensures.0 (name_lent c.key_name-k.ensures.1) (out_lent c.name_at-n.ensures) c.grant_reply.ensures c.by_length.ensures
+    renewal_answers c.requires.0 _ _ c.in-Some.is _ _ c.in-Some-one.is a.at.pair a.at.time _ c.granting-t.ensures a.scheme _ _ _ _ _ a.suffix.now c.answer_count.ensures.0 (name_lent c.key_name-k.ensures.1) (out_lent c.name_at-n.ensures) c.grant_reply.ensures

@@ -4,8 +4,8 @@ use Rattle.model.specs.Replies.{reply_of}
 use Rattle.replies.proofs.Answers.{answers_none, read_so, refused_fits, failed_fits, renews_fits, none_replies, refused_replies, tkey_replies, readopted_replies, renewed_replies}
 use Rattle.replies.proofs.write.Goals as goal
 
-pub refused-requires : goal.refused-requires
-refused-requires c =
+pub rcode_reply-requires : goal.rcode_reply-requires
+rcode_reply-requires c =
     (read_so c.requires.0, refused_fits c.args.d c.args.at.pair c.args.at.time c.requires.1 _ _ c.in-Refused.is)
 
 pub outcome-requires : goal.outcome-requires
@@ -23,7 +23,7 @@ returns-in-Unsigned c = none_replies (λ h g q. rw c.in-Unsigned.is refl) (answe
 
 pub returns-in-Refused : goal.returns-in-Refused
 unfolding reply_of
-returns-in-Refused c = refused_replies _ (λ h g q. rw c.in-Refused.is refl) c.refused.ensures
+returns-in-Refused c = refused_replies _ (λ h g q. rw c.in-Refused.is refl) c.rcode_reply.ensures
 
 pub returns-in-Passed : goal.returns-in-Passed
 unfolding reply_of

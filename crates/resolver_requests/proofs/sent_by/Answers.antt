@@ -1,14 +1,13 @@
 -- `resolver_requests::sent_by` meets its contract. Assumes nothing.
 use mathlib.Core.Path.{refl, ◌∙◌}
-use borrow.Author.Tests.{eq-eqb, ne_eqb}
 use Rattle.model.specs.Resolver.{ROOM}
 use Rattle.resolver_requests.specs.Sent.{sent_by}
 use Rattle.resolver_requests.proofs.sent_by.Goals as goal
 
-pub returns-then-n-eq0 : goal.returns-then-n-eq0
+pub returns-in-None : goal.returns-in-None
 unfolding sent_by ROOM
-returns-then-n-eq0 c = c.unsent.ensures ∙ rw (eq-eqb _ _ c.if-n-eq0.true) refl
+returns-in-None c = c.unsent.ensures ∙ rw c.in-None.is refl
 
-pub returns : goal.returns
+pub returns-in-Some : goal.returns-in-Some
 unfolding sent_by
-returns c = rw (ne_eqb _ _ c.if-n-eq0.false) refl
+returns-in-Some c = rw c.in-Some.is refl

@@ -1,6 +1,4 @@
 -- `reviewing::review` meets its contract. Assumes nothing.
-use mathlib.Core.Path.{◌≡◌}
-use lib.ListN.{length}
 use borrow.Author.Rules.{rules}
 use Rattle.reviewing.proofs.Laws.{unloaded, reviewed}
 use Rattle.reviewing.proofs.review.Goals as goal

@@ -23,7 +23,7 @@ pub bounds-words-1 : goal.bounds-words-1
 bounds-words-1 c = omega (arith, (laid c.args.words.now c.args.suffixes.now (sym c.layout_ok.ensures ∙ c.if-not-layout_ok.false)).words)
 
 pub loop-q-init : goal.loop-q-init
-loop-q-init c = (omega arith, by_places _ _ (sym c.layout_ok.ensures ∙ c.if-not-layout_ok.false) (sym c.front_fair.ensures ∙ c.if-not-front_fair.false) ∙ simp sub-zero)
+loop-q-init c = by_places _ _ (sym c.layout_ok.ensures ∙ c.if-not-layout_ok.false) (sym c.front_fair.ensures ∙ c.if-not-front_fair.false) ∙ simp sub-zero
 
 pub place_fair-requires : goal.place_fair-requires
 place_fair-requires c = ((sym c.layout_ok.ensures ∙ c.if-not-layout_ok.false), c.loop-q-test.true)
@@ -31,17 +31,14 @@ place_fair-requires c = ((sym c.layout_ok.ensures ∙ c.if-not-layout_ok.false),
 pub returns-then-not-place_fair : goal.returns-then-not-place_fair
 returns-then-not-place_fair c =
     let l = c.loop-q in
-    sym (l.invariant.1 ∙ all_stop _ _ l.q (omega arith) (sym c.place_fair.ensures ∙ c.if-not-place_fair.true))
-
-pub overflow_add-q : goal.overflow_add-q
-overflow_add-q c = omega (arith, (laid c.args.words.now c.args.suffixes.now (sym c.layout_ok.ensures ∙ c.if-not-layout_ok.false)).few)
+    sym (l.invariant ∙ all_stop _ _ l.q (omega arith) (sym c.place_fair.ensures ∙ c.if-not-place_fair.true))
 
 pub loop-q-preserved : goal.loop-q-preserved
 loop-q-preserved c =
     let l = c.loop-q in
-    (omega arith, l.invariant.1 ∙ all_next _ _ l.q (omega arith) (sym c.place_fair.ensures ∙ c.if-not-place_fair.false))
+    l.invariant ∙ all_next _ _ l.q (omega arith) (sym c.place_fair.ensures ∙ c.if-not-place_fair.false)
 
 pub returns : goal.returns
 returns c =
     let l = c.loop-q in
-    sym (l.invariant.1 ∙ all_end _ _ l.q (omega arith))
+    sym (l.invariant ∙ all_end _ _ l.q (omega arith))

@@ -2,8 +2,8 @@
 use Rattle.server.proofs.Laws.{keep_same, keep_stored}
 use Rattle.server.proofs.keep_row.Goals as goal
 
-pub returns-in-Same : goal.returns-in-Same
-returns-in-Same c = keep_same _ c.args.s _ _ c.in-Same.is
+pub returns-in-None : goal.returns-in-None
+returns-in-None c = keep_same _ c.args.s _ _ c.in-None.is
 
-pub returns-in-Changed : goal.returns-in-Changed
-returns-in-Changed c = keep_stored _ c.args.s _ _ c.in-Changed.is c.requires.2 c.settle.ensures
+pub returns-in-Some : goal.returns-in-Some
+returns-in-Some c = keep_stored _ c.args.s _ _ c.in-Some.is c.requires.2 c.settle.ensures

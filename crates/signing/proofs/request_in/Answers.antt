@@ -10,17 +10,17 @@ pub returns-then-other-gt65535 : goal.returns-then-other-gt65535
 returns-then-other-gt65535 c = λ mac.
     let a = c.args in
     let t = stamp_of a.numbers a.algorithm.now mac a.other.now in
-    request_goes _ _ t c.requires.0 _ _ _ (too_much t (request_digest a.m.now a.name.now t) a.out.now _ (omega arith) c.refused.ensures)
+    request_goes _ _ t c.requires.0 _ _ _ (too_much t (request_digest a.m.now a.name.now t) a.out.now (omega arith))
 
 pub returns-then-out-m : goal.returns-then-out-m
 returns-then-out-m c = λ mac.
     let a = c.args in
     let t = stamp_of a.numbers a.algorithm.now mac a.other.now in
     let l = request_length a.m.now a.name.now t (omega arith) in
-    request_goes _ _ t c.requires.0 _ _ _ (no_room t (request_digest a.m.now a.name.now t) a.out.now (omega arith) _ (omega arith) c.refused-then-out-m.ensures)
+    request_goes _ _ t c.requires.0 _ _ _ (no_room t (request_digest a.m.now a.name.now t) a.out.now (omega arith) (omega arith))
 
 pub returns : goal.returns
 returns c = λ mac.
     let a = c.args in
     let t = stamp_of a.numbers a.algorithm.now mac a.other.now in
-    request_goes _ _ t c.requires.0 _ _ _ (in_room_lem t (request_digest a.m.now a.name.now t) a.out.now (omega arith) _ _ (c.digest_into-end.ensures mac))
+    request_goes _ _ t c.requires.0 _ _ _ (in_room_lem t (request_digest a.m.now a.name.now t) a.out.now (omega arith) _ _ (c.digest_into.ensures mac))

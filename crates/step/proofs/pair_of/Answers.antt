@@ -3,10 +3,10 @@ use Rattle.model.specs.Judging.{held_pair}
 use Rattle.model.specs.Tables.{no_pair}
 use Rattle.step.proofs.pair_of.Goals as goal
 
-pub returns-in-Nobody : goal.returns-in-Nobody
+pub returns-in-None : goal.returns-in-None
 unfolding held_pair no_pair
-returns-in-Nobody c = λ suffix. simp c.in-Nobody.is
+returns-in-None c = λ suffix. simp c.in-None.is
 
-pub returns-in-Pair : goal.returns-in-Pair
+pub returns-in-Some : goal.returns-in-Some
 unfolding held_pair
-returns-in-Pair c = λ suffix. simp c.in-Pair.is
+returns-in-Some c = λ suffix. simp c.in-Some.is

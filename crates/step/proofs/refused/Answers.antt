@@ -1,8 +1,8 @@
 -- `step::refused` meets its contract. Assumes nothing.
 use mathlib.Core.Path.{ap}
 use Rattle.model.specs.declared.Answer.{Answer}
-use Rattle.step.specs.declared.After.TheVariants.{Same}
+use Rattle.std.specs.Prelude.{None}
 use Rattle.step.proofs.refused.Goals as goal
 
 pub returns : goal.returns
-returns c = ap (λ (a : Answer). record { answer = a; after = Same }) c.bare.ensures
+returns c = ap (λ (a : Answer). record { answer = a; after = None }) c.bare.ensures

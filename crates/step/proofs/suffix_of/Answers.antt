@@ -2,10 +2,10 @@
 use Rattle.model.specs.Judging.{held_suffix}
 use Rattle.step.proofs.suffix_of.Goals as goal
 
-pub returns-in-Nobody : goal.returns-in-Nobody
+pub returns-in-None : goal.returns-in-None
 unfolding held_suffix
-returns-in-Nobody c = simp c.in-Nobody.is
+returns-in-None c = simp c.in-None.is
 
-pub returns-in-Pair : goal.returns-in-Pair
+pub returns-in-Some : goal.returns-in-Some
 unfolding held_suffix
-returns-in-Pair c = simp c.in-Pair.is
+returns-in-Some c = simp c.in-Some.is

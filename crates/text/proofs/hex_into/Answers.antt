@@ -1,4 +1,4 @@
--- `text::hex_into` meets its contract. The loop's invariant: the first i octets of s are written. The measure is what is left of s. Assumes nothing.
+-- `text::hex_into` meets its contract. The loop's invariant: the first octets of s are written. Assumes nothing.
 use mathlib.Core.Path.{refl, ap}
 use native.Mathlib.Omega.{arith}
 use lib.Seq.{take_all}
@@ -8,21 +8,17 @@ use Rattle.octets.proofs.Back.{wrote_none}
 use Rattle.text.proofs.Laws.{hex_more}
 use Rattle.text.proofs.hex_into.Goals as goal
 
-pub loop-i-init : goal.loop-i-init
+pub loop-x-init : goal.loop-x-init
 unfolding hex_of
-loop-i-init c = (omega arith, omega arith, refl, wrote_none _ _ (omega arith))
+loop-x-init c = (omega arith, refl, wrote_none _ _ (omega arith))
 
-pub loop-i-preserved : goal.loop-i-preserved
-loop-i-preserved c =
-    let a = c.args in
-    let l = c.loop-i in
+pub loop-x-preserved : goal.loop-x-preserved
+loop-x-preserved c =
+    let l = c.loop-x in
     let w = c.octet_into-next in
-    (omega arith, omega arith, omega arith, wrote_as (hex_more a.s.now l.i (omega arith)) (then l.invariant.3 w.ensures.1))
-
-pub shape_of-buf : goal.shape_of-buf
-shape_of-buf c = c.loop-i.invariant.2
+    (omega arith, omega arith, wrote_as (hex_more c.args.s.now l.x-index (omega arith)) (then l.invariant.2 w.ensures.1))
 
 pub returns : goal.returns
 returns c =
-    let l = c.loop-i in
-    (omega arith, wrote_as (ap hex_of (take_all l.i c.args.s.now (omega arith))) l.invariant.3)
+    let l = c.loop-x in
+    (omega arith, wrote_as (ap hex_of (take_all l.x-index c.args.s.now (omega arith))) l.invariant.2)

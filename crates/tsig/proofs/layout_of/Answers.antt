@@ -3,33 +3,33 @@ use native.Mathlib.Omega.{arith}
 use Rattle.tsig.proofs.LayoutLaws.{l_bad, l_within, l_cut, l_short, l_odd, l_fields}
 use Rattle.tsig.proofs.layout_of.Goals as goal
 
+pub returns-in_default : goal.returns-in_default
+returns-in_default c = l_bad _ _ _ c.skip_plain.ensures.read _ c.in_default.is
+
 pub overflow_sub-d : goal.overflow_sub-d
-overflow_sub-d c = l_within _ _ _ c.skip_plain.ensures.read _ _ c.in-Name.is
+overflow_sub-d c = l_within _ _ _ c.skip_plain.ensures.read _ _ c.in-Ok.is
 
 pub returns-then-d-next-lt10 : goal.returns-then-d-next-lt10
-returns-then-d-next-lt10 c = l_cut _ _ _ c.skip_plain.ensures.read _ _ c.in-Name.is (omega arith)
+returns-then-d-next-lt10 c = l_cut _ _ _ c.skip_plain.ensures.read _ _ c.in-Ok.is (omega arith)
 
 pub returns-then-d-next : goal.returns-then-d-next
 returns-then-d-next c =
-    l_short _ _ _ c.skip_plain.ensures.read _ _ c.in-Name.is
+    l_short _ _ _ c.skip_plain.ensures.read _ _ c.in-Ok.is
     (omega arith) _ c.u16_at-size.ensures (omega arith)
 
 pub returns-then-d-tail-lt6 : goal.returns-then-d-tail-lt6
 returns-then-d-tail-lt6 c =
     l_short _ _ _ c.skip_plain.ensures.read _ _
-    c.in-Name.is (omega arith) _ c.u16_at-size.ensures (omega arith)
+    c.in-Ok.is (omega arith) _ c.u16_at-size.ensures (omega arith)
 
 pub returns-then-d-tail : goal.returns-then-d-tail
 returns-then-d-tail c =
     l_odd _ _ _ c.skip_plain.ensures.read _ _
-    c.in-Name.is (omega arith) _ c.u16_at-size.ensures
+    c.in-Ok.is (omega arith) _ c.u16_at-size.ensures
     (omega arith) _ c.u16_at-count.ensures (λ e. c.if-d-tail.true (omega arith))
 
-pub returns-in-Bad : goal.returns-in-Bad
-returns-in-Bad c = l_bad _ _ _ c.skip_plain.ensures.read _ c.in-Bad.is
-
-pub returns-else-d-tail : goal.returns-else-d-tail
-returns-else-d-tail c =
+pub returns : goal.returns
+returns c =
     l_fields _ _ _ c.skip_plain.ensures.read _ _
-    c.in-Name.is (omega arith) _ c.u16_at-size.ensures
+    c.in-Ok.is (omega arith) _ c.u16_at-size.ensures
     (omega arith) _ c.u16_at-count.ensures (omega arith)

@@ -1,43 +1,50 @@
 -- `words::read_number` meets its contract. The loop's invariant: the number goes on from n by the digits left. Assumes nothing.
-use Prim.Native.Nat.{◌+◌, ◌-◌, ◌*◌, ◌<◌}
-use mathlib.Core.Path.{sym, ◌∙◌}
+use Prim.Native.Nat.{◌+◌, ◌-◌, ◌*◌}
+use mathlib.Core.Path.{◌≡◌, sym, ap, ◌∙◌}
 use native.Mathlib.Omega.{arith}
-use borrow.Author.Rules.{rules}
-use Rattle.words.proofs.Laws.{no_digits, digits, low, high, large, digit, all_read}
+use lib.ListN.{get_or, drop}
+use Rattle.model.specs.Text.{number_from, is_digit}
+use Rattle.words.proofs.Laws.{no_digits, digits, no_digit, large, digit, all_read}
 use Rattle.words.proofs.read_number.Goals as goal
 
-pub returns-then-w-eq0 : goal.returns-then-w-eq0
-returns-then-w-eq0 c = no_digits c.args.w.now c.if-w-eq0.true
+pub returns-then-is_empty : goal.returns-then-is_empty
+returns-then-is_empty c = sym (no_digits c.args.w.now (grind arith))
 
-pub loop-i-init : goal.loop-i-init
-loop-i-init c = (search rules, search rules, digits c.args.w.now c.if-w-eq0.false)
+pub loop-c-init : goal.loop-c-init
+loop-c-init c = digits c.args.w.now (λ e. grind arith)
 
-pub returns-then-c-lt48 : goal.returns-then-c-lt48
-returns-then-c-lt48 c =
-    let l = c.loop-i in
-    sym l.invariant.2 ∙ low c.args.w.now l.i l.n (search rules) (omega (arith, c.wide-c.ensures.0))
+pub returns-then-not-is_ascii_digit : goal.returns-then-not-is_ascii_digit
+unfolding is_digit
+returns-then-not-is_ascii_digit c =
+    let l = c.loop-c in
+    sym (no_digit c.args.w.now l.c-index l.n (omega arith) (sym c.is_ascii_digit.ensures.value ∙ c.if-not-is_ascii_digit.true)) ∙ l.invariant
 
-pub returns-then-c-gt57 : goal.returns-then-c-gt57
-returns-then-c-gt57 c =
-    let l = c.loop-i in
-    sym l.invariant.2 ∙ high c.args.w.now l.i l.n (search rules) (omega (arith, c.wide-c.ensures.0))
+pub returns-in_err-checked_mul : goal.returns-in_err-checked_mul
+unfolding is_digit
+returns-in_err-checked_mul c =
+    let l = c.loop-c in
+    let is = sym c.is_ascii_digit.ensures.value ∙ c.if-not-is_ascii_digit.false in
+    c.from_residual.ensures ∙ sym (large c.args.w.now l.c-index l.n (omega arith) is (grind (arith, c.in_err-checked_mul.ensures))) ∙ l.invariant
 
-pub returns-then-c-n : goal.returns-then-c-n
-returns-then-c-n c =
-    let l = c.loop-i in
+pub returns-in_err-n : goal.returns-in_err-n
+unfolding is_digit
+returns-in_err-n c =
+    let l = c.loop-c in
+    let is = sym c.is_ascii_digit.ensures.value ∙ c.if-not-is_ascii_digit.false in
+    c.from_residual-in_err-n.ensures ∙ sym (large c.args.w.now l.c-index l.n (omega arith) is (grind (arith, c.in_err-n.ensures, c.in_ok-checked_mul.ensures, c.from.ensures))) ∙ l.invariant
+
+pub loop-c-preserved : goal.loop-c-preserved
+unfolding is_digit
+loop-c-preserved c =
+    let l = c.loop-c in
     let w = c.args.w.now in
-    let x = c.wide-c in
-    sym l.invariant.2 ∙ large w l.i l.n (search rules) x.result x.ensures.0 (omega arith) (omega arith) (omega arith)
-
-pub loop-i-preserved : goal.loop-i-preserved
-loop-i-preserved c =
-    let l = c.loop-i in
-    let w = c.args.w.now in
-    let x = c.wide-c in
-    let fits : l.n * 10 + (x.result - 48) < 0x1_0000_0000_0000_0000 = omega arith in
-    (omega arith, fits, sym (digit w l.i l.n (search rules) x.result x.ensures.0 (omega arith) (omega arith) fits) ∙ l.invariant.2)
+    let is = sym c.is_ascii_digit.ensures.value ∙ c.if-not-is_ascii_digit.false in
+    let more : c.in_ok-n.n ≡ l.n * 10 + (get_or w l.c-index 0 - 48) = grind (arith, c.in_ok-n.ensures, c.in_ok-checked_mul.ensures, c.from.ensures) in
+    ap (λ n. number_from n (drop (l.c-index + 1) w)) more
+    ∙ sym (digit w l.c-index l.n (omega arith) is (grind (arith, c.in_ok-n.ensures, c.in_ok-checked_mul.ensures, c.from.ensures)))
+    ∙ l.invariant
 
 pub returns : goal.returns
 returns c =
-    let l = c.loop-i in
-    sym l.invariant.2 ∙ all_read c.args.w.now l.i l.n (omega arith)
+    let l = c.loop-c in
+    sym (all_read c.args.w.now l.c-index l.n (omega arith)) ∙ l.invariant

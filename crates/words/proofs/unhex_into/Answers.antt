@@ -1,68 +1,53 @@
 -- `words::unhex_into` meets its contract. The loop's invariant: the octets are those read so far, and then those that what is left says. Assumes nothing.
-use Prim.Native.Nat.{ℕ, ◌+◌, ◌*◌}
-use mathlib.Core.Path.{refl, sym, ◌∙◌, ap}
-use mathlib.Core.Option.{some}
-use mathlib.Core.List.{List, append-nil}
+use Prim.Native.Nat.{ℕ, ◌+◌, ◌*◌, ◌/◌}
+use mathlib.Core.Path.{◌≡◌, refl, sym, ◌∙◌, ap}
+use Rattle.std.specs.Prelude.{Option, None, Some}
+use mathlib.Core.List.{List, [], ◌∷◌, ◌++◌, append-nil}
 use native.Mathlib.Omega.{arith}
 use native.Mathlib.Numerals.{add-one}
-use borrow.Author.Rules.{rules}
-use lib.ListN.{take, drop, length-set}
+use lib.ListN.{length, take, drop, set, length-set}
 use lib.Seq.{take-suc-set}
 use Rattle.model.specs.Text.{unhex}
-use Rattle.words.proofs.Laws.{after, after_none, bad_high, bad_low, octet_on, odd, even}
+use Rattle.words.specs.Reads.{OctetsRead}
+use Rattle.words.proofs.Laws.{after, bad_high, bad_low, octet_on, odd_word, even}
 use Rattle.words.proofs.unhex_into.Goals as goal
 
-pub loop-i-init : goal.loop-i-init
-loop-i-init c = (refl, search rules, refl, after_none _)
+refused : (w b b' : List ℕ) (r : Option ℕ) → r ≡ None → unhex w ≡ None → length b' ≡ length b → OctetsRead (unhex w) b b' r
+refused w b b' r e n l = rw e record { are = n; fits = tt; long = l }
 
-pub shape_of-out-then-high-gt15 : goal.shape_of-out-then-high-gt15
-shape_of-out-then-high-gt15 c = c.loop-i.invariant.2
+pub returns-then-w-ne0 : goal.returns-then-w-ne0
+returns-then-w-ne0 c = refused _ _ _ _ refl (odd_word c.args.w.now c.if-w-ne0.true) refl
 
-pub returns-then-high-gt15 : goal.returns-then-high-gt15
-returns-then-high-gt15 c =
-    let l = c.loop-i in
+pub returns-in_err-high : goal.returns-in_err-high
+returns-in_err-high c =
+    let l = c.loop-n in
+    let n = bad_high c.args.w.now (2 * l.n) (omega arith) c.in_err-high.ensures.value in
+    refused _ _ _ _ c.from_residual.ensures (l.invariant.1 ∙ ap (after _) n) l.invariant.0
+
+pub returns-in_err-low : goal.returns-in_err-low
+returns-in_err-low c =
+    let l = c.loop-n in
+    let n = bad_low c.args.w.now (2 * l.n) (omega arith) c.in_err-low.ensures.value in
+    refused _ _ _ _ c.from_residual-in_err-low.ensures (l.invariant.1 ∙ ap (after _) n) l.invariant.0
+
+pub loop-n-preserved : goal.loop-n-preserved
+loop-n-preserved c =
+    let l = c.loop-n in
     let w = c.args.w.now in
-    let none = bad_high w l.i (search rules) _ _ c.nibble_of-high.ensures.0 c.nibble_of-low.ensures.0 c.if-high-gt15.true in
-    record { are = l.invariant.3 ∙ ap (after _) none; fits = tt; long = l.invariant.2 }
-
-pub shape_of-out-then-low-gt15 : goal.shape_of-out-then-low-gt15
-shape_of-out-then-low-gt15 c = c.loop-i.invariant.2
-
-pub returns-then-low-gt15 : goal.returns-then-low-gt15
-returns-then-low-gt15 c =
-    let l = c.loop-i in
-    let w = c.args.w.now in
-    let none = bad_low w l.i (search rules) _ _ c.nibble_of-high.ensures.0 c.nibble_of-low.ensures.0 c.if-low-gt15.true in
-    record { are = l.invariant.3 ∙ ap (after _) none; fits = tt; long = l.invariant.2 }
-
-pub loop-i-preserved : goal.loop-i-preserved
-loop-i-preserved c =
-    let l = c.loop-i in
-    let w = c.args.w.now in
-    let high = c.nibble_of-high in
-    let low = c.nibble_of-low in
-    let on = octet_on w l.i (search rules) high.result low.result high.ensures.0 low.ensures.0 (omega arith) (omega arith) (take l.n l.out) in
-    let more = take-suc-set l.out l.n (high.result * 16 + low.result) (omega arith) in (
-      omega arith,
-      omega arith,
-      length-set l.out l.n _ ∙ l.invariant.2,
-      l.invariant.3 ∙ on ∙ ap (λ (xs : List ℕ). after xs (unhex (drop (l.i + 2) w))) (sym (rw add-one more)),
+    let high = c.in_ok-high.high in
+    let low = c.in_ok-low.low in
+    let on = octet_on w (2 * l.n) (omega arith) high low c.in_ok-high.ensures.value c.in_ok-low.ensures.value (take l.n l.out) in
+    let more : take (l.n + 1) (set l.out l.n (high * 16 + low)) ≡ take l.n l.out ++ ((high * 16 + low) ∷ []) = rw add-one (take-suc-set l.out l.n (high * 16 + low) (omega arith)) in
+    let two : 2 * l.n + 2 ≡ 2 * (l.n + 1) = omega arith in (
+      length-set l.out l.n _ ∙ l.invariant.0,
+      rw two at (l.invariant.1 ∙ on ∙ ap (λ (xs : List ℕ). after xs (unhex (drop (2 * l.n + 2) w))) (sym more)),
     )
-
-pub shape_of-out-then-i-w : goal.shape_of-out-then-i-w
-shape_of-out-then-i-w c = c.loop-i.invariant.2
-
-pub returns-then-i-w : goal.returns-then-i-w
-returns-then-i-w c =
-    let l = c.loop-i in
-    let none = odd c.args.w.now l.i (search rules) (omega arith) in
-    record { are = l.invariant.3 ∙ ap (after _) none; fits = tt; long = l.invariant.2 }
-
-pub shape_of-out : goal.shape_of-out
-shape_of-out c = c.loop-i.invariant.2
 
 pub returns : goal.returns
 returns c =
-    let l = c.loop-i in
-    let all = even c.args.w.now l.i (omega arith) in
-    record { are = l.invariant.3 ∙ ap (after _) all ∙ ap some (append-nil _); fits = omega arith; long = l.invariant.2 }
+    let l = c.loop-n in
+    let w = c.args.w.now in
+    let all = even w (2 * l.n) (omega arith) in
+    let n : l.n ≡ length w / 2 = omega arith in
+    let read : OctetsRead (unhex w) c.args.out.now l.out (Some l.n) = record { are = l.invariant.1 ∙ ap (after _) all ∙ ap Some (append-nil _); fits = omega arith; long = l.invariant.0 } in
+    rw n at read

@@ -1,6 +1,0 @@
--- `capi_signing::luffcringle_received_later` meets its contract. Assumes nothing.
-use Rattle.capi_signing.proofs.Laws.{left_to}
-use Rattle.capi_signing.proofs.luffcringle_received_later.Goals as goal
-
-pub returns : goal.returns
-returns c = left_to c.received_later-a.ensures c.tell.ensures

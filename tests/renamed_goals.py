@@ -15,7 +15,7 @@ import tempfile
 
 ROOT = os.path.dirname(os.path.dirname(os.path.abspath(__file__)))
 EDITS = """
-    names/folds_a_length_octet words/colon_is_a_digit ordering/case_kept_on_one_side lines/number_with_a_leading_zero_reads messages/left_over_passes
+    ordering/case_kept_on_one_side lines/number_with_a_leading_zero_reads messages/left_over_passes
     tsig/class_in tkey/left_over_other_data tkey/tkey_of_another_section contents/longest_message_of_65536_octets judging/verdict_ignored
     operator/enrol_at_floor_2_32 operator/new_table_later operator/serial_2_32_issued operator/sixty_five_rows resolver_requests/empty_name_written_as_it_is
     resolver_replies/any_id_is_answered resolver_replies/tkey_error_not_looked_at granted/key_data_beside_an_error capi_resolver/refusal_stores_the_state

@@ -3,11 +3,13 @@ use Prim.Native.Nat.{ℕ}
 use mathlib.Core.Path.{◌≡◌, refl, sym, ap, subst, ◌∙◌}
 use mathlib.Core.Bool.{true, false}
 use mathlib.Core.List.{List}
+use Rattle.model.specs.declared.Algorithm.{Algorithm}
 use Rattle.model.specs.Octets.{stops}
+use Rattle.model.specs.Names.{algorithm_number}
 use Rattle.model.specs.Messages.{read_message}
 use Rattle.model.specs.Calls.{DONE, SIZE, FORMAT, NOTQUERY, size_ok}
-use Rattle.model.specs.Inquiries.{Asks, unasked_at, unasked, asks_with, asks_by, asks_of}
-use Rattle.std.specs.Prelude.{Option, None, Some, Result, Ok, Err}
+use Rattle.model.specs.Inquiries.{Asks, unasked_at, unasked, number_named, asks_with, asks_by, asks_of}
+use Rattle.std.specs.Prelude.{Option, None, Some, Result, Ok, Err, MatchOption}
 use Rattle.tkey.specs.declared.KeyFields.{KeyFields}
 use Rattle.tkey.specs.Key.{key_shown, KeyFits}
 use Rattle.tkey.specs.Fields.{tkey_shown, TkeyFits}
@@ -31,6 +33,12 @@ pub data_one : (m : List ℕ) (k : Option OnlyKey) (place : ℕ) (f : KeyFields)
 data_one m k place f e fits = subst (λ (k : Option OnlyKey). DataRead m k (Some f.content)) (sym e) (record { says = refl; within = (subst (KeyFits m) e fits).content })
 
 -- ── What is asked ───────────────────────────────────────────────────────────────────────────────────────────────────
+
+-- the number of an algorithm, or 0 for none
+pub numbered : (named : Option Algorithm) (n : ℕ) → MatchOption named (n ≡ 0) (λ g. n ≡ algorithm_number g) → n ≡ number_named named
+unfolding number_named
+numbered None n h = h
+numbered (Some g) n h = h
 
 pub shows_as : {m : List ℕ} {a b : Asks} {r : Result Asked Unasked} → a ≡ b → Shows m b r → Shows m a r
 shows_as e s = record { says = e ∙ s.says; within = s.within }

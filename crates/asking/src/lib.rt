@@ -4,7 +4,7 @@
 #![tactic(auto)]
 
 ghost use Rattle.std.specs.Prelude.{◌≡◌, List, ℕ};
-ghost use Rattle.model.specs.Inquiries.{unasked_at, number_named, asks_with, asks_by, asks_of};
+ghost use Rattle.model.specs.Inquiries.{unasked_at, asks_with, asks_by, asks_of};
 ghost use Rattle.tkey.specs.Fields.{tkey_from, Fits};
 ghost use Rattle.tkey.specs.Key.{key_shown, KeyFits};
 ghost use Rattle.contents.specs.Contents.{contents_shown, ContentsRead};
@@ -12,7 +12,7 @@ ghost use Rattle.asking.specs.Asking.{DataRead, Shows};
 ghost use Rattle.asking.specs.declared.Unasked.TheVariants.{Unread as Refuses};
 
 use contents::{Contents, Unread};
-use model::{Algorithm, Span};
+use model::Span;
 use tkey::{OnlyKey, OnlyTkey, TkeyFields};
 
 // What a message asks for: the TKEY's mode (0 where nothing is asked), algorithm (256, 384 or 512, or 0 for any other), times and key data; and the data of the only
@@ -55,19 +55,6 @@ fn nothing_asked() -> Asked
     }
 }
 
-fn number_named(named: Option<Algorithm>) -> u64
-    ensures { result ≡ number_named named }
-{
-    match named {
-        Some(g) => match g {
-            Algorithm::Sha256 => 256,
-            Algorithm::Sha384 => 384,
-            Algorithm::Sha512 => 512,
-        },
-        None => 0,
-    }
-}
-
 // The KEY record's data, if there is one.
 fn key_data(key: Option<OnlyKey>) -> Option<Span>
     ensures { (m : List ℕ) → KeyFits m key → DataRead m key result }
@@ -84,7 +71,7 @@ fn asked_with(m: &[u8], t: TkeyFields, key: Option<OnlyKey>) -> Asked
     ensures { (owner : List ℕ) → Shows m.now (asks_with (key_shown m.now key) (Some (tkey_from m.now owner t))) (Ok result) }
 {
     let named = names::algorithm_named(records::part_of(m, t.algorithm));
-    let algorithm = number_named(named);
+    let algorithm = named.map_or(0, u64::from);
     let second = key_data(key);
     Asked {
         mode: t.mode as u64,

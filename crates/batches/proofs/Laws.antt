@@ -7,7 +7,7 @@ use mathlib.Core.Bool.{Bool, true, false, ◌&&◌}
 use mathlib.Core.List.{List, [], ◌∷◌, ◌++◌, append_assoc, append-nil}
 use native.Mathlib.Nat.{sub-zero}
 use native.Mathlib.Omega.{arith}
-use borrow.Author.Tests.{leb-true, leb-false, le-leb, lt-leb}
+use borrow.Author.Tests.{leb-true, le-leb, lt-leb}
 use lib.Dec.{leb}
 use lib.ListN.{length, get_or, take, drop, length-append, length-take, length-drop}
 use Rattle.model.specs.declared.Answer.{Answer}
@@ -29,23 +29,6 @@ use Rattle.outcomes.proofs.Laws.{rules_layout, shown_words, row_few, after_clock
 use Rattle.results.specs.Words.{answer_words}
 use Rattle.server.specs.Serve.{OwnOf, Answered}
 use Rattle.batches.specs.Batched.{item_at, items_from, items_in, answers_of, item_owner, Outside, OfNone, BatchShows, ItemFits, ItemShows, Behind, TurnShows}
-
--- ── Where the parts lie ─────────────────────────────────────────────────────────────────────────────────────────────
-
--- A part by a difference, that does not wrap.
-pub inside_short : (from size n : ℕ) → n < size → false ≡ leb (from + size) n
-inside_short from size n h = sym (lt-leb (from + size) n (omega arith))
-
-inside_by : (from size n : ℕ) → size ≤ n → (b : Bool) → leb from (n - size) ≡ b → b ≡ leb (from + size) n
-inside_by from size n h true e =
-    let k : from ≤ n - size = leb-true from (n - size) e in
-    sym (le-leb (from + size) n (omega arith))
-inside_by from size n h false e =
-    let k : n - size < from = leb-false from (n - size) e in
-    sym (lt-leb (from + size) n (omega arith))
-
-pub inside_less : (from size n : ℕ) → size ≤ n → leb from (n - size) ≡ leb (from + size) n
-inside_less from size n h = inside_by from size n h (leb from (n - size)) refl
 
 -- The items from the place i on.
 abbrev pub rest_of : List ℕ → ℕ → ℕ → List BatchItem

@@ -57,9 +57,9 @@ pub extern "C" fn luffcringle_resolver_hold(
     if !names::wire_name(name) {
         return 6;
     }
-    match resolver_state::algorithm_numbered(algorithm) {
-        None => 6,
-        Some(g) => {
+    match Algorithm::try_from(algorithm) {
+        Err(_) => 6,
+        Ok(g) => {
             let k = key_named(name, g, inception, expiration);
             resolver_state::store(words, names, starting_with(k));
             0
@@ -144,12 +144,12 @@ pub extern "C" fn luffcringle_resolver_renewal(
         key.now (length out.old))
         words.old names.old words.new names.new told.new out.old out.new result }
 {
-    match resolver_state::algorithm_numbered(algorithm) {
-        None => {
+    match Algorithm::try_from(algorithm) {
+        Err(_) => {
             tell_sent(told, 0, SignWith::Nobody);
             6
         }
-        Some(g) => renewal_of(
+        Ok(g) => renewal_of(
             words, names, id, name, g, inception, expiration, key, out, told,
         ),
     }

@@ -17,7 +17,7 @@ use Rattle.model.specs.Names.{read_name}
 use Rattle.model.specs.Compare.{Placed, question_form, record_form, question_fields, record_fields, same_octets, same_field, first_in}
 use Rattle.model.proofs.CompareFields.{Level}
 use Rattle.compression.specs.Skip.{NameSkipped}
-use Rattle.comparing.specs.Fields.{unless, total, octet_fields, NameStands, QuestionStands, RecordStands}
+use Rattle.comparing.specs.Fields.{unless, total, octet_fields, question_size, record_size, NameStands, Stands}
 use Rattle.compression.specs.declared.Name.{Name}
 
 -- ── Octets ──────────────────────────────────────────────────────────────────────────────────────────────────────────
@@ -79,20 +79,20 @@ pub name_is_lem : (m : List ℕ) (n : Reading (List ℕ)) (r : Result Name ℕ) 
 name_is_lem m n r len next s e = rw e at s.read.says
 
 module _ (m : List ℕ) (at : ℕ) (r : Result Name ℕ) (s : NameSkipped m (read_name m at) r) where
-  pub question_unread : (p : ℕ) → r ≡ Err p → QuestionStands m at None
+  pub question_unread : (p : ℕ) → r ≡ Err p → Stands question_fields question_size m at None
   unfolding question_fields
   question_unread p e on = rw (name_bad m (read_name m at) r p s e) refl
 
-  pub record_unread : (p : ℕ) → r ≡ Err p → RecordStands m at None
+  pub record_unread : (p : ℕ) → r ≡ Err p → Stands record_fields record_size m at None
   unfolding record_fields
   record_unread p e on = rw (name_bad m (read_name m at) r p s e) refl
 
   module _ (len next : ℕ) (e : r ≡ Ok (record { len = len; next = next })) where
-    pub question_cut : length m < next + 4 → QuestionStands m at None
+    pub question_cut : length m < next + 4 → Stands question_fields question_size m at None
     unfolding question_fields
     question_cut h on = rw (name_is_lem m (read_name m at) r len next s e, lt-ltb (length m) (next + 4) h) refl
 
-    pub record_cut : length m < next + 10 + u16_at m (next + 8) → RecordStands m at None
+    pub record_cut : length m < next + 10 + u16_at m (next + 8) → Stands record_fields record_size m at None
     unfolding record_fields
     record_cut h on = rw (name_is_lem m (read_name m at) r len next s e, lt-ltb (length m) (next + 10 + u16_at m (next + 8)) h) refl
 

@@ -14,7 +14,7 @@ use Rattle.model.proofs.CompareFields.{level_data}
 use Rattle.matching.specs.Compare.{same_read}
 use Rattle.comparing.specs.declared.Walk.{Walk}
 use Rattle.comparing.specs.declared.Walk.TheVariants.{Differs, Ends, Same as GoesOn}
-use Rattle.comparing.specs.Fields.{octet_fields, NameStands, continued, Told, ToldFrom, counted, body_of, BodyTold}
+use Rattle.comparing.specs.Fields.{octet_fields, NameStands, Begins, continued, Told, ToldFrom, counted, body_of, BodyTold}
 use Rattle.comparing.proofs.Laws.{question_standing, record_standing, level_octets, or_else, first_join}
 use Rattle.comparing.proofs.DataLaws.{nth_number}
 
@@ -25,15 +25,13 @@ module _ (end : ℕ) (ours theirs : Reading (List Placed)) where
   unfolding first_in
   both_end f g = record { says = λ on off. rw (f on, g off) refl }
 
-  pub theirs_only : (y : Placed) (ys : List Placed) (next : ℕ) → ((on : ℕ → List Placed) → followed ours on ≡ []) → theirs ≡ reads (y ∷ ys) next
-      → Told end ours theirs (Differs y.place)
+  pub theirs_only : (at : ℕ) → ((on : ℕ → List Placed) → followed ours on ≡ []) → Begins at theirs → Told end ours theirs (Differs at)
   unfolding first_in
-  theirs_only y ys next f g = record { says = λ on off. rw (f on, g) refl }
+  theirs_only at f g = record { says = λ on off. rw (f on, g.says) refl }
 
-  pub ours_only : (x : Placed) (xs : List Placed) (next : ℕ) → ours ≡ reads (x ∷ xs) next → ((on : ℕ → List Placed) → followed theirs on ≡ [])
-      → Told end ours theirs (Differs end)
+  pub ours_only : (at : ℕ) → Begins at ours → ((on : ℕ → List Placed) → followed theirs on ≡ []) → Told end ours theirs (Differs end)
   unfolding first_in
-  ours_only x xs next f g = record { says = λ on off. rw (f, g off) refl }
+  ours_only at f g = record { says = λ on off. rw (f.says, g off) refl }
 
 -- ── Two questions ───────────────────────────────────────────────────────────────────────────────────────────────────
 
@@ -43,6 +41,9 @@ question_widths = 2 ∷ 2 ∷ []
 pub question_shows : (m : List ℕ) (at next : ℕ) (s : NameStands m at next 4) → question_fields m at ≡ reads (name_at at s.name ∷ octet_fields m next next question_widths) (next + 4)
 unfolding question_form octet_fields
 question_shows m at next s = question_standing m at next s
+
+pub question_begins : (m : List ℕ) (at next : ℕ) → NameStands m at next 4 → Begins at (question_fields m at)
+question_begins m at next s = record { first = _; rest = _; end = _; says = question_shows m at next s }
 
 -- the names
 same_names : (a b : List ℕ) (i j p q k l : ℕ) (s : NameStands a i p k) (t : NameStands b j q l) (u : Bool) → u ≡ same_read (read_name a i) (read_name b j) → u ≡ same_name s.name t.name
@@ -79,6 +80,9 @@ pub record_shows : (m : List ℕ) (at next : ℕ) (s : NameStands m at next (10 
     → record_fields m at ≡ reads (name_at at s.name ∷ (octet_fields m next next record_widths ++ record_data m next)) (next + 10 + u16_at m (next + 8))
 unfolding record_form octet_fields
 record_shows m at next s = record_standing m at next s ∙ simp add_assoc
+
+pub record_begins : (m : List ℕ) (at next : ℕ) → NameStands m at next (10 + u16_at m (next + 8)) → Begins at (record_fields m at)
+record_begins m at next s = record { first = _; rest = _; end = _; says = record_shows m at next s }
 
 module _ (a b : List ℕ) (p q : ℕ) (r : Option ℕ) (says : (end at : ℕ) → first_in end (octet_fields a p at record_widths) (octet_fields b q q record_widths) ≡ r) (e : r ≡ None) where
   none_there : first_in 0 (octet_fields a p 0 record_widths) (octet_fields b q q record_widths) ≡ None

@@ -2,7 +2,7 @@
 use Rattle.std.specs.Prelude.{ℕ, ◌+◌, ◌≤◌, ◌≡◌, Bool, true, false, List, [], ◌∷◌, length, Option, None, Some}
 use Rattle.model.specs.Octets.{u16_at, part, Reading, reads}
 use Rattle.model.specs.Names.{read_name}
-use Rattle.model.specs.Compare.{octets, Placed, question_fields, record_fields, followed, fields_from, first_in}
+use Rattle.model.specs.Compare.{octets, Field, Placed, question_fields, record_fields, followed, fields_from, first_in}
 use Rattle.comparing.specs.declared.Walk.{Walk}
 use Rattle.comparing.specs.declared.Walk.TheVariants.{Differs, Ends, Same as GoesOn}
 
@@ -31,13 +31,24 @@ pub record NameStands (m : List ℕ) (at next size : ℕ) : Type 0 where
   pub named : read_name m at ≡ reads name next
   pub fits : next + size ≤ length m
 
-abbrev pub QuestionStands : List ℕ → ℕ → Option ℕ → Type 0
-QuestionStands m at None = (on : ℕ → List Placed) → followed (question_fields m at) on ≡ []
-QuestionStands m at (Some next) = NameStands m at next 4
+-- How many octets a question and a record have behind a name that ends before `next`.
+abbrev pub question_size : List ℕ → ℕ → ℕ
+question_size m next = 4
 
-abbrev pub RecordStands : List ℕ → ℕ → Option ℕ → Type 0
-RecordStands m at None = (on : ℕ → List Placed) → followed (record_fields m at) on ≡ []
-RecordStands m at (Some next) = NameStands m at next (10 + u16_at m (next + 8))
+abbrev pub record_size : List ℕ → ℕ → ℕ
+record_size m next = 10 + u16_at m (next + 8)
+
+-- What is read has fields, of which the first stands at `at`.
+pub record Begins (at : ℕ) (r : Reading (List Placed)) : Type 0 where
+  pub first : Field
+  pub rest : List Placed
+  pub end : ℕ
+  pub says : r ≡ reads (record { place = at; field = first } ∷ rest) end
+
+-- A question or a record stands at `at` of m and its name ends before that place, or none stands there and there is nothing to compare.
+abbrev pub Stands : (List ℕ → ℕ → Reading (List Placed)) → (List ℕ → ℕ → ℕ) → List ℕ → ℕ → Option ℕ → Type 0
+Stands fields size m at None = (on : ℕ → List Placed) → followed (fields m at) on ≡ []
+Stands fields size m at (Some next) = NameStands m at next (size m next) × Begins at (fields m at)
 
 -- ── Questions and records, and what follows ─────────────────────────────────────────────────────────────────────────
 

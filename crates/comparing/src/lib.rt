@@ -1,12 +1,12 @@
 // Another server's reply compared with ours (02, CR 12), field by field in wire order, where the two lie: in loops, with no array and no recursion.
 #![tactic(auto)]
 
-ghost use Rattle.std.specs.Prelude.{◌≡◌, ℕ, ◌+◌, ◌≤◌, ◌<◌, ◌^◌, length, drop};
-ghost use Rattle.model.specs.Octets.{u16_at, part};
+ghost use Rattle.std.specs.Prelude.{◌≡◌, ℕ, ◌+◌, ◌≤◌, ◌<◌, ◌^◌, List, length, drop};
+ghost use Rattle.model.specs.Octets.{u16_at, part, Reading};
 ghost use Rattle.model.specs.Names.{read_plain};
 ghost use Rattle.model.specs.Messages.{read_message};
-ghost use Rattle.model.specs.Compare.{tkey_end, tkey_middle, tkey_fields, data_fields, question_fields, record_fields, same_octets, first_in, first_difference, verdict, by_reading, compared};
-ghost use Rattle.comparing.specs.Fields.{unless, total, octet_fields, QuestionStands, RecordStands, Told, ToldFrom, counted, BodyTold};
+ghost use Rattle.model.specs.Compare.{Placed, tkey_end, tkey_middle, tkey_fields, data_fields, question_fields, record_fields, same_octets, first_in, first_difference, verdict, by_reading, compared};
+ghost use Rattle.comparing.specs.Fields.{unless, total, octet_fields, question_size, record_size, Stands, Told, ToldFrom, counted, BodyTold};
 
 use compression::Name;
 use messages::Outline;
@@ -138,37 +138,6 @@ fn data_fields(kind: usize, c: &[u8], d: &[u8], base: usize) -> Option<usize>
 
 // ── A question, a record ────────────────────────────────────────────────────────────────────────────────────────────
 
-fn question_at(m: &[u8], at: usize) -> Option<usize>
-    ensures { QuestionStands m.now at result }
-{
-    match compression::skip_name(m, at) {
-        Err(_) => None,
-        Ok(Name { len: _, next }) => {
-            if m.len() - next < 4 {
-                return None;
-            }
-            Some(next)
-        }
-    }
-}
-
-fn record_at(m: &[u8], at: usize) -> Option<usize>
-    ensures { RecordStands m.now at result }
-{
-    match compression::skip_name(m, at) {
-        Err(_) => None,
-        Ok(Name { len: _, next }) => {
-            if m.len() - next < 10 {
-                return None;
-            }
-            if m.len() - (next + 10) < octets::u16_at(m, next + 8) {
-                return None;
-            }
-            Some(next)
-        }
-    }
-}
-
 // What comparing questions or records gives: a field differs; neither reply has a field more; or all are the same, and the replies go on at these places.
 #[derive(Clone, Copy)]
 enum Walk {
@@ -177,36 +146,54 @@ enum Walk {
     Same { ours: usize, theirs: usize },
 }
 
-// The question at i of ours, whose name ends before p, and the question at j of theirs, whose name ends before q.
-fn question_fields(a: &[u8], i: usize, p: usize, b: &[u8], j: usize, q: usize) -> Walk
-    requires { QuestionStands a.now i (Some p) × QuestionStands b.now j (Some q) }
-    ensures { Told (length b.now) (question_fields a.now i) (question_fields b.now j) result }
-{
-    if !matching::same_names_at(a, i, b, j) {
-        return Walk::Differs(j);
-    }
-    match fields(a, p, b, q, q, b"\x02\x02") {
-        None => Walk::Same {
-            ours: p + 4,
-            theirs: q + 4,
-        },
-        Some(place) => Walk::Differs(place),
-    }
+// What a message has several of, one behind the other: a question or a record.
+trait Entry {
+    ghost fields: { List ℕ → ℕ → Reading (List Placed) };
+
+    // How many octets one of m has behind its name, by where that ends.
+    ghost size: { List ℕ → ℕ → ℕ };
+
+    // Where the name ends of the one at `at` of m, if one stands there.
+    fn name_end(m: &[u8], at: usize) -> Option<usize>
+        ensures { Stands fields size m.now at result };
+
+    // The one at i of ours, whose name ends before p, and the one at j of theirs, whose name ends before q.
+    fn walk(a: &[u8], i: usize, p: usize, b: &[u8], j: usize, q: usize) -> Walk
+        requires { Stands fields size a.now i (Some p) × Stands fields size b.now j (Some q) }
+        ensures { Told (length b.now) (fields a.now i) (fields b.now j) result };
 }
 
-// The question at i of ours and the one at j of theirs.
-fn question(a: &[u8], i: usize, b: &[u8], j: usize) -> Walk
-    ensures { Told (length b.now) (question_fields a.now i) (question_fields b.now j) result }
-{
-    match question_at(a, i) {
-        None => match question_at(b, j) {
-            None => Walk::Ends,
-            Some(_) => Walk::Differs(j),
-        },
-        Some(p) => match question_at(b, j) {
-            None => Walk::Differs(b.len()),
-            Some(q) => question_fields(a, i, p, b, j, q),
-        },
+#[derive(Clone, Copy)]
+struct Question;
+
+impl Entry for Question {
+    ghost fields = { question_fields };
+
+    ghost size = { question_size };
+
+    fn name_end(m: &[u8], at: usize) -> Option<usize> {
+        match compression::skip_name(m, at) {
+            Err(_) => None,
+            Ok(Name { len: _, next }) => {
+                if m.len() - next < 4 {
+                    return None;
+                }
+                Some(next)
+            }
+        }
+    }
+
+    fn walk(a: &[u8], i: usize, p: usize, b: &[u8], j: usize, q: usize) -> Walk {
+        if !matching::same_names_at(a, i, b, j) {
+            return Walk::Differs(j);
+        }
+        match fields(a, p, b, q, q, b"\x02\x02") {
+            None => Walk::Same {
+                ours: p + 4,
+                theirs: q + 4,
+            },
+            Some(place) => Walk::Differs(place),
+        }
     }
 }
 
@@ -225,73 +212,75 @@ fn record_data(a: &[u8], p: usize, b: &[u8], q: usize) -> Option<usize>
     data_fields(octets::u16_at(a, p), c, d, q + 10)
 }
 
-// The records, as the questions above.
-fn record_fields(a: &[u8], i: usize, p: usize, b: &[u8], j: usize, q: usize) -> Walk
-    requires { RecordStands a.now i (Some p) × RecordStands b.now j (Some q) }
-    ensures { Told (length b.now) (record_fields a.now i) (record_fields b.now j) result }
-{
-    if !matching::same_names_at(a, i, b, j) {
-        return Walk::Differs(j);
-    }
-    match fields(a, p, b, q, q, b"\x02\x02\x04\x02") {
-        Some(place) => Walk::Differs(place),
-        None => match record_data(a, p, b, q) {
-            Some(place) => Walk::Differs(place),
-            None => {
-                let size = octets::u16_at(a, p + 8);
-                Walk::Same {
-                    ours: p + 10 + size,
-                    theirs: q + 10 + size,
+#[derive(Clone, Copy)]
+struct Record;
+
+impl Entry for Record {
+    ghost fields = { record_fields };
+
+    ghost size = { record_size };
+
+    fn name_end(m: &[u8], at: usize) -> Option<usize> {
+        match compression::skip_name(m, at) {
+            Err(_) => None,
+            Ok(Name { len: _, next }) => {
+                if m.len() - next < 10 {
+                    return None;
                 }
+                if m.len() - (next + 10) < octets::u16_at(m, next + 8) {
+                    return None;
+                }
+                Some(next)
             }
-        },
+        }
+    }
+
+    fn walk(a: &[u8], i: usize, p: usize, b: &[u8], j: usize, q: usize) -> Walk {
+        if !matching::same_names_at(a, i, b, j) {
+            return Walk::Differs(j);
+        }
+        match fields(a, p, b, q, q, b"\x02\x02\x04\x02") {
+            Some(place) => Walk::Differs(place),
+            None => match record_data(a, p, b, q) {
+                Some(place) => Walk::Differs(place),
+                None => {
+                    let size = octets::u16_at(a, p + 8);
+                    Walk::Same {
+                        ours: p + 10 + size,
+                        theirs: q + 10 + size,
+                    }
+                }
+            },
+        }
     }
 }
 
-fn record(a: &[u8], i: usize, b: &[u8], j: usize) -> Walk
-    ensures { Told (length b.now) (record_fields a.now i) (record_fields b.now j) result }
+// The one at i of ours and the one at j of theirs.
+fn walk_one<E: Entry>(a: &[u8], i: usize, b: &[u8], j: usize) -> Walk
+    ensures { Told (length b.now) (E.fields a.now i) (E.fields b.now j) result }
 {
-    match record_at(a, i) {
-        None => match record_at(b, j) {
+    match E::name_end(a, i) {
+        None => match E::name_end(b, j) {
             None => Walk::Ends,
             Some(_) => Walk::Differs(j),
         },
-        Some(p) => match record_at(b, j) {
+        Some(p) => match E::name_end(b, j) {
             None => Walk::Differs(b.len()),
-            Some(q) => record_fields(a, i, p, b, j, q),
+            Some(q) => E::walk(a, i, p, b, j, q),
         },
     }
 }
 
 // ── The replies ─────────────────────────────────────────────────────────────────────────────────────────────────────
 
-// `count` questions of each, behind the header.
-fn questions(a: &[u8], b: &[u8], count: usize) -> Walk
-    ensures { ToldFrom (length b.now) (question_fields a.now) (question_fields b.now) count 12 12 result }
-{
-    let mut i = 12;
-    let mut j = 12;
-    for _ in 0..count {
-        match question(a, i, b, j) {
-            Walk::Differs(place) => return Walk::Differs(place),
-            Walk::Ends => return Walk::Ends,
-            Walk::Same { ours, theirs } => {
-                i = ours;
-                j = theirs;
-            }
-        }
-    }
-    Walk::Same { ours: i, theirs: j }
-}
-
-// `count` records of each, from these places on.
-fn records(a: &[u8], from: usize, b: &[u8], to: usize, count: usize) -> Walk
-    ensures { ToldFrom (length b.now) (record_fields a.now) (record_fields b.now) count from to result }
+// `count` questions or records of each, from these places on.
+fn walk_all<E: Entry>(a: &[u8], from: usize, b: &[u8], to: usize, count: usize) -> Walk
+    ensures { ToldFrom (length b.now) (E.fields a.now) (E.fields b.now) count from to result }
 {
     let mut i = from;
     let mut j = to;
     for _ in 0..count {
-        match record(a, i, b, j) {
+        match walk_one::<E>(a, i, b, j) {
             Walk::Differs(place) => return Walk::Differs(place),
             Walk::Ends => return Walk::Ends,
             Walk::Same { ours, theirs } => {
@@ -310,7 +299,7 @@ fn sections(a: &[u8], from: usize, b: &[u8], to: usize) -> Walk
 {
     let last = octets::u16_at(b, 8) + octets::u16_at(b, 10);
     let count = octets::u16_at(b, 6) + last;
-    records(a, from, b, to, count)
+    walk_all::<Record>(a, from, b, to, count)
 }
 
 // Questions and records, as counted in theirs.
@@ -318,7 +307,7 @@ fn behind_header(a: &[u8], b: &[u8]) -> Walk
     requires { 12 ≤ length b.now }
     ensures { BodyTold a.now b.now result }
 {
-    match questions(a, b, octets::u16_at(b, 4)) {
+    match walk_all::<Question>(a, 12, b, 12, octets::u16_at(b, 4)) {
         Walk::Differs(place) => Walk::Differs(place),
         Walk::Ends => Walk::Ends,
         Walk::Same { ours, theirs } => sections(a, ours, b, theirs),

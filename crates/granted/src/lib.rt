@@ -8,7 +8,6 @@ ghost use Rattle.granted.specs.Brought.{DataRead, asks_renewal, renews as renews
 
 use messages::Kept;
 use model::{Asking, Holding, OpenRequest, Resolver, Span};
-use records::Found;
 use tkey::Layout;
 use tsig::Signer;
 

@@ -9,11 +9,11 @@ ghost use Rattle.model.specs.Names.{key_name};
 ghost use Rattle.model.specs.Tables.{table_rules};
 ghost use Rattle.model.specs.Inquiries.{tested, unfound, pair_named, pair_suffixed, pair_of_key, below_next, spelt_in, key_name_in, key_name_of, unshown, pair_shown, adopted_serial, waiting_serial, unless, moves_of};
 ghost use Rattle.store.specs.Layout.{keys_at, pair_words, layout_rule, table_of};
-ghost use Rattle.outcomes.specs.Gate.{number_of};
+ghost use Rattle.results.specs.Numbers.{number_of};
 ghost use Rattle.inquiries.specs.Inquired.{PairTold, Spells};
 
 use model::{FoundPair, Keys, Moves, Pair, ShownPair};
-use outcomes::Refusal;
+use results::Refusal;
 
 // What an inquiry that writes octets returns: its number, and how many it wrote.
 #[derive(Clone, Copy)]

@@ -3,7 +3,7 @@ use Prim.Native.Nat.{ℕ, zero, suc, ◌+◌, ◌-◌, ◌*◌, ◌/◌, ◌≤�
 use mathlib.Core.Bool.{Bool, true, false, ◌&&◌, false≢true}
 use mathlib.Core.Path.{◌≡◌, refl, sym, ap, ap₂, ◌∙◌, subst}
 use Rattle.std.specs.Prelude.{Option, None, Some, Result, Ok, Err}
-use mathlib.Core.List.{List, [], ◌∷◌, ◌++◌, append-nil, append_assoc}
+use mathlib.Core.List.{List, [], ◌∷◌, ◌++◌, append_assoc}
 use lib.Dec.{eqb}
 use borrow.Author.Tests.{ne_eqb}
 use native.Mathlib.Numerals.{add-one}
@@ -11,7 +11,6 @@ use native.Mathlib.Omega.{arith}
 use lib.ListN.{length, take, drop, length-append, drop_of_length-le}
 use lib.Seq.{length-take-le}
 use Rattle.model.specs.declared.Pair.{Pair}
-use Rattle.model.specs.Octets.{put}
 use Rattle.model.specs.Tables.{Table, Row}
 use Rattle.model.specs.Calls.{with_row}
 use Rattle.model.specs.declared.Clocked.{Clocked}
@@ -382,9 +381,3 @@ module _ (text : List ℕ) (from at n : ℕ) (whole : unread_from true 2 (lines_
   pub unread_end : length text ≤ at → unread_from true 2 (lines_of (drop from text)) ≡ None
   unfolding lines_of unread_from
   unread_end h = whole ∙ ap (λ (x : List ℕ). unread_from (eqb n 2) n (lines_of x)) (drop_of_length-le text h)
-
-pub put_whole : (xs b : List ℕ) → length xs ≡ length b → put xs b ≡ xs
-unfolding put
-put_whole xs b h =
-    let short : length b ≤ length xs = omega (arith, h) in
-    ap (λ (x : List ℕ). xs ++ x) (drop_of_length-le b short) ∙ append-nil xs

@@ -11,7 +11,7 @@ ghost use Rattle.looking.specs.Look.{Sound};
 
 use judging::Owner;
 use model::Answer;
-use outcomes::Refusal;
+use results::Refusal;
 
 // A look that passed TABLE.
 fn look_passed(words: &[u64], suffixes: &[u8], message: &[u8]) -> Answer

@@ -2,14 +2,13 @@
 -- changes nothing. It ends with a number of 01's list, refusals in their order, and with what it tells: nothing where it is refused. Assumes nothing.
 use Rattle.std.specs.Prelude.{ℕ, ◌+◌, max, Bool, cond, not, ◌&&◌, ◌||◌, List, [], length, leb, ltb, eqb, Option, None, Some}
 use Rattle.model.specs.declared.Algorithm.{Algorithm}
-use Rattle.model.specs.declared.Algorithm.TheVariants.{Sha256, Sha384, Sha512}
 use Rattle.model.specs.declared.Key.{Key}
 use Rattle.model.specs.declared.Keys.{Keys}
 use Rattle.model.specs.declared.Pair.{Pair}
 use Rattle.model.specs.declared.FoundPair.{FoundPair}
 use Rattle.model.specs.declared.ShownPair.{ShownPair}
 use Rattle.model.specs.declared.Moves.{Moves}
-use Rattle.model.specs.Names.{wire_name, key_name, after_label, algorithm_named}
+use Rattle.model.specs.Names.{wire_name, key_name, after_label, algorithm_named, algorithm_number}
 use Rattle.model.specs.Messages.{Record, read_message}
 use Rattle.model.specs.Tkey.{Tkey, Contents, contents_of}
 use Rattle.model.specs.Tables.{Table, no_pair, suffix_at, pair_at, names_of, row_named, table_rules}
@@ -139,9 +138,7 @@ abbrev pub unread_at : ℕ → Asks
 unread_at place = unasked_at FORMAT place
 
 unfoldable pub number_named : Option Algorithm → ℕ
-number_named (Some Sha256) = 256
-number_named (Some Sha384) = 384
-number_named (Some Sha512) = 512
+number_named (Some g) = algorithm_number g
 number_named None = 0
 
 abbrev pub content_of : Option Record → Option (List ℕ)

@@ -22,9 +22,10 @@ use Rattle.store.specs.Stored.{ClockSet, PairStored}
 use Rattle.store.proofs.Laid.{laid, shown as shown-laid}
 use Rattle.store.proofs.Storing.{row_of, rows_length}
 use Rattle.ruling.proofs.Laws.{broken_layout}
-use Rattle.outcomes.specs.declared.Refusal.{Refusal}
-use Rattle.outcomes.specs.declared.Refusal.TheVariants.{Table as NoTable, Time, Clock, Room, NoPair, NoKey, Spent, Name, Term, Twin, Full}
-use Rattle.outcomes.specs.Gate.{refusal_of, number_of, number_in, First, Open, Entered}
+use Rattle.results.specs.declared.Refusal.{Refusal}
+use Rattle.results.specs.Numbers.{number_of}
+use Rattle.results.specs.declared.Refusal.TheVariants.{Table as NoTable, Time, Clock, Size, Offer, Format, NotQuery, Room, NoPair, NoKey, Spent, Name, Term, Twin, Full, KeyRec}
+use Rattle.outcomes.specs.Gate.{refusal_of, number_in, First, Open, Entered}
 use Rattle.outcomes.specs.Ends.{shown, Served, Own, Rest, Settled}
 
 -- ── A store, as it is shown ─────────────────────────────────────────────────────────────────────────────────────────
@@ -171,6 +172,10 @@ module _ {A : Type 0} {r : Either A Refusal} {x : Refusal} (is : r ≡ Err x) wh
       go NoTable e = omega arith
       go Time e = omega arith
       go Clock e = omega arith
+      go Size e = omega arith
+      go Offer e = omega arith
+      go Format e = omega arith
+      go NotQuery e = omega arith
       go Room e = omega arith
       go NoPair e = omega arith
       go NoKey e = omega arith
@@ -179,6 +184,7 @@ module _ {A : Type 0} {r : Either A Refusal} {x : Refusal} (is : r ≡ Err x) wh
       go Term e = omega arith
       go Twin e = omega arith
       go Full e = omega arith
+      go KeyRec e = omega arith
 
   pub refused_answer : {a : Answer} → a ≡ (refusal (number_of x)).answer → a ≡ (refusal (number_in r)).answer
   refused_answer e = e ∙ ap (λ (n : ℕ). (refusal n).answer) (sym (ap number_in is))

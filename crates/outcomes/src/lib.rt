@@ -3,50 +3,14 @@
 #![tactic(auto)]
 
 ghost use Rattle.std.specs.Prelude.{true, ◌&&◌, ◌≡◌, leb, length, ◌<◌};
-ghost use Rattle.model.specs.Names.{algorithm_numbered};
 ghost use Rattle.model.specs.Tables.{suffix_at, pair_at, table_rules};
 ghost use Rattle.model.specs.Calls.{refusal, done};
 ghost use Rattle.store.specs.Layout.{layout_rule, table_of};
-ghost use Rattle.outcomes.specs.Gate.{number_of, number_in, First, Entered};
+ghost use Rattle.outcomes.specs.Gate.{number_in, First, Entered};
 ghost use Rattle.outcomes.specs.Ends.{answer_in, Settled};
 
-use model::{Algorithm, Answer, Pair};
-
-// The refusals of a call or an inquiry that reads no message, each with its number (document 01, "Numbers a caller sees").
-#[derive(Clone, Copy)]
-pub enum Refusal {
-    Table,
-    Time,
-    Clock,
-    Room,
-    NoPair,
-    NoKey,
-    Spent,
-    Name,
-    Term,
-    Twin,
-    Full,
-}
-
-impl Refusal {
-    pub fn number(self) -> u64
-        ensures { result ≡ number_of self }
-    {
-        match self {
-            Refusal::Table => 1,
-            Refusal::Time => 2,
-            Refusal::Clock => 3,
-            Refusal::Room => 8,
-            Refusal::NoPair => 9,
-            Refusal::NoKey => 10,
-            Refusal::Spent => 11,
-            Refusal::Name => 12,
-            Refusal::Term => 13,
-            Refusal::Twin => 14,
-            Refusal::Full => 15,
-        }
-    }
-}
+use model::{Answer, Pair};
+use results::Refusal;
 
 // ── Answers ─────────────────────────────────────────────────────────────────────────────────────────────────────────
 
@@ -144,18 +108,4 @@ pub fn settle(words: &mut [u64], suffixes: &[u8], row: usize, p: Pair, serial: u
     let place = store::place_of(words, row);
     store::store_pair(words, place, p);
     finished(row as u64 + 1, serial)
-}
-
-// ── What an operator names ──────────────────────────────────────────────────────────────────────────────────────────
-
-#[tactic(auto, unfolding(model::specs::Names::algorithm_numbered))]
-pub fn algorithm_numbered(n: u64) -> Option<Algorithm>
-    ensures { result ≡ algorithm_numbered n }
-{
-    match n {
-        256 => Some(Algorithm::Sha256),
-        384 => Some(Algorithm::Sha384),
-        512 => Some(Algorithm::Sha512),
-        _ => None,
-    }
 }

@@ -47,7 +47,7 @@ fn finish(u: Unsigned, mac: &[u8], out: &mut [u8]) -> Result<usize, Refusal> {
     )
 }
 
-// The octets of the name at a place of the message m, written out at the front of the array: how many. None where it cannot be read.
+// The octets of the name at a place of the message m, written out at the front of the array: how many, 0 where it cannot be read.
 fn name_into(m: &[u8], place: usize, name: &mut [u8; 255]) -> usize {
     compression::expand_name(m, name, place).map_or(0, |read| read.len)
 }

@@ -554,8 +554,8 @@ fn write<'a>(
     }
 }
 
-// The reply to the message m (01, "The reply"), which says c, by what was decided. Nothing is written where there is no room. A message that is passed up has no
-// reply: then nothing of what was read is handed on.
+// The reply to the message m (01, "The reply"), which says c, by what was decided: how many octets it has. None and nothing is written where there is no room. A message
+// that is passed up has no reply: 0, and nothing of what was read is handed on.
 pub fn reply<'a>(
     buf: &mut [u8],
     m: &'a [u8],

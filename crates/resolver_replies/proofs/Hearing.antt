@@ -3,9 +3,11 @@ use Prim.Native.Nat.{ℕ, ◌%◌, ◌≤◌}
 use mathlib.Core.Path.{◌≡◌, refl, ap, sym, subst, ◌∙◌}
 use mathlib.Core.Bool.{Bool, true, false, ◌&&◌}
 use mathlib.Core.List.{List}
+use mathlib.Core.Logic.{◌⊎◌, inl, inr}
+use Rattle.model.specs.declared.OpenRequest.{OpenRequest}
 use native.Mathlib.Omega.{arith}
 use lib.Dec.{eqb}
-use lib.ListN.{length, take, get_or}
+use lib.ListN.{length, take, get_or, length-take}
 use borrow.Author.Tests.{eq-eqb, ne_eqb}
 use Rattle.model.specs.declared.Algorithm.{Algorithm}
 use Rattle.std.specs.Prelude.{Option, Some, None, Result, Ok, Err}
@@ -54,8 +56,12 @@ module _ (s : Resolver) (t : TkeyAnswer) (x d : List ℕ) (here : d ≡ x) (n : 
 pub renews : (s : Resolver) (t : TkeyAnswer) (h : Holding) → s.holding ≡ h → renewed_in h s t ≡ renewed_in s.holding s t
 renews s t h e = ap (λ (x : Holding). renewed_in x s t) (sym e)
 
-pub by_fits : (m : List ℕ) (f : Option AnswerFound) (n : ℕ) (t : AnswerFields) → f ≡ Some (record { name = n; fields = t }) → FoundFits m f → (n ≤ 255) × Within m t.algorithm
-by_fits m f n t e h = let g : FoundFits m (Some (record { name = n; fields = t })) = rw e at h in (g.0, g.1.algorithm)
+pub by_fits : (m owner : List ℕ) (f : Option AnswerFound) (n : ℕ) (t : AnswerFields) → f ≡ Some (record { name = n; fields = t }) → FoundFits m f
+    → (length (take n owner) ≤ 255) × Within m t.algorithm
+by_fits m owner f n t e h =
+    let g : FoundFits m (Some (record { name = n; fields = t })) = rw e at h in
+    let k = g.0 in
+    (simp length-take (omega arith), g.1.algorithm)
 
 module _ (asking : Asking) (s : Resolver) (m owner : List ℕ) (f : Option AnswerFound) where
   pub by_none : f ≡ None → s ≡ moved_by asking s (shown m owner f)
@@ -111,41 +117,38 @@ hears s asking m end response error r a = record { says = λ q w t e. rw (a.says
 
 -- ── Checks ──────────────────────────────────────────────────────────────────────────────────────────────────────────
 
-module _ (s : Resolver) (asking : Asking) (good : Bool) (m : List ℕ) (end : ℕ) (response : Bool) (g : Signer) (r : Heard) where
-  pub by_nobody : g ≡ Nobody → r ≡ unheard s 3 → HearsSigned s asking good m end response g r
+module _ (s : Resolver) (asking : Asking) (good : Bool) (m : List ℕ) (end : ℕ) (response : Bool) (g : Signer) where
+  pub by_unsigned : (g ≡ Nobody) ⊎ (g ≡ Ill) → HearsSigned s asking good m end response g (unheard s 3)
   unfolding UNSIGNED
-  by_nobody h i = record { says = λ q w. i ∙ rw h refl }
-
-  pub by_ill : g ≡ Ill → r ≡ unheard s 3 → HearsSigned s asking good m end response g r
-  unfolding UNSIGNED
-  by_ill h i = record { says = λ q w. i ∙ rw h refl }
+  by_unsigned (inl h) = record { says = λ q w. rw h refl }
+  by_unsigned (inr h) = record { says = λ q w. rw h refl }
 
   module _ (place : ℕ) (t : TsigFields) (h : g ≡ Key place t) where
-    pub by_verdict : good ≡ false → r ≡ unheard s 3 → HearsSigned s asking good m end response g r
+    pub by_verdict : good ≡ false → HearsSigned s asking good m end response g (unheard s 3)
     unfolding UNSIGNED
-    by_verdict v i = record { says = λ q w. i ∙ rw (h, v) refl }
+    by_verdict v = record { says = λ q w. rw (h, v) refl }
 
-    pub by_signed : good ≡ true → Hears s asking m end response t.error r → HearsSigned s asking good m end response g r
-    by_signed v i = record { says = λ q w. i.says q w (tsig_from m (name_standing m place) t) refl ∙ rw (h, v) refl }
+    pub by_signed : (r : Heard) → good ≡ true → Hears s asking m end response t.error r → HearsSigned s asking good m end response g r
+    by_signed r v i = record { says = λ q w. i.says q w (tsig_from m (name_standing m place) t) refl ∙ rw (h, v) refl }
 
-module _ (s : Resolver) (good : Bool) (m : List ℕ) (end : ℕ) (response : Bool) (g : Signer) (r : Heard) where
-  pub lost : s.awaited ≡ None → r ≡ unheard s 1 → HearsAwaited s good m end response g r
+module _ (s : Resolver) (good : Bool) (m : List ℕ) (end : ℕ) (response : Bool) (g : Signer) where
+  pub lost : s.awaited ≡ None → HearsAwaited s good m end response g (unheard s 1)
   unfolding LOST
-  lost h i = record { says = λ q w e. i ∙ rw h refl }
+  lost h = record { says = λ q w e. rw h refl }
 
-  module _ (id : ℕ) (asking : Asking) (h : s.awaited ≡ Some (record { id = id; asking = asking })) (x : ℕ) (is : x ≡ u16_at m 0) where
-    pub wrong_id : (x ≡ id → ⊥) → r ≡ unheard s 2 → HearsAwaited s good m end response g r
+  module _ (p : OpenRequest) (h : s.awaited ≡ Some p) (x : ℕ) (is : x ≡ u16_at m 0) where
+    pub wrong_id : (x ≡ p.id → ⊥) → HearsAwaited s good m end response g (unheard s 2)
     unfolding WRONGID
-    wrong_id k i = record { says = λ q w e. i ∙ rw (h, w.id ∙ sym is, ne_eqb x id k) refl }
+    wrong_id k = record { says = λ q w e. rw (h, w.id ∙ sym is, ne_eqb x p.id k) refl }
 
-    pub right_id : x ≡ id → HearsSigned s asking good m end response g r → HearsAwaited s good m end response g r
-    right_id k i = record { says = λ q w e. i.says q w ∙ rw (h, w.id ∙ sym is, eq-eqb x id k, e) refl }
+    pub right_id : (r : Heard) → x ≡ p.id → HearsSigned s p.asking good m end response g r → HearsAwaited s good m end response g r
+    right_id r k i = record { says = λ q w e. i.says q w ∙ rw (h, w.id ∙ sym is, eq-eqb x p.id k, e) refl }
 
 module _ (s : Resolver) (good : Bool) (m : List ℕ) (o : Result Contents Unread) (q : ReadAs m o) where
-  pub unread : (u : Unread) → o ≡ Err u → (r : Heard) → r ≡ unheard s 4 → r ≡ read_reply s good m
+  pub unread : (u : Unread) → o ≡ Err u → unheard s 4 ≡ read_reply s good m
   unfolding read_reply FORMAT
-  unread Size e r i = i ∙ rw (subst (ReadAs m) e q) refl
-  unread (Broken place) e r i = let x : (size_ok m ≡ true) × (read_message m ≡ stops place) = subst (ReadAs m) e q in i ∙ rw (x.0, x.1) refl
+  unread Size e = rw (subst (ReadAs m) e q) refl
+  unread (Broken place) e = let x : (size_ok m ≡ true) × (read_message m ≡ stops place) = subst (ReadAs m) e q in rw (x.0, x.1) refl
 
   pub well_formed_lem : (c : Contents) → o ≡ Ok c → (r : Heard) → HearsAwaited s good m c.end c.response c.signer r → r ≡ read_reply s good m
   unfolding read_reply

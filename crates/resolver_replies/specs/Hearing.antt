@@ -1,6 +1,6 @@
 -- What the steps of reading a reply say, of whatever message the octets m are: `end` is where its questions end, and `signer` says how it is signed.
 -- Assumes nothing.
-use Rattle.std.specs.Prelude.{ℕ, ◌-◌, ◌≤◌, ◌≡◌, Bool, false, List, length, replicate}
+use Rattle.std.specs.Prelude.{ℕ, ◌-◌, ◌≤◌, ◌≡◌, Bool, false, List, length, replicate, Result, Ok, Err}
 use Rattle.model.specs.declared.Algorithm.{Algorithm}
 use Rattle.model.specs.declared.ResolverKey.{ResolverKey}
 use Rattle.model.specs.declared.Holding.TheVariants.{AdoptedAndOffered, Adopted}
@@ -10,9 +10,22 @@ use Rattle.model.specs.declared.Heard.{Heard}
 use Rattle.model.specs.Octets.{put, u16_at, part, reads}
 use Rattle.model.specs.Messages.{Message, read_message}
 use Rattle.model.specs.Tsig.{Tsig, signature}
-use Rattle.model.specs.Resolver.{only_answer, moved_by, accepted, heard, signed_reply, awaited_reply}
+use Rattle.model.specs.Resolver.{unheard, only_answer, moved_by, accepted, heard, signed_reply, awaited_reply}
 use Rattle.tsig.specs.declared.Signer.{Signer}
 use Rattle.tsig.specs.Signature.{shown as signerShown}
+use Rattle.resolver_replies.specs.declared.Refusal.{Refusal}
+use Rattle.resolver_replies.specs.declared.Refusal.TheVariants.{Lost, WrongId, Unsigned, Format}
+
+-- The number of a refusal; and what is returned: what was heard, or a refusal, which moves nothing.
+abbrev pub number_of : Refusal → ℕ
+number_of Lost = 1
+number_of WrongId = 2
+number_of Unsigned = 3
+number_of Format = 4
+
+abbrev pub heard_in : Resolver → Result Heard Refusal → Heard
+heard_in s (Ok h) = h
+heard_in s (Err r) = unheard s (number_of r)
 
 -- A key by its name and its other fields.
 abbrev pub key_from : List ℕ → Algorithm → ℕ → ℕ → ResolverKey

@@ -7,44 +7,53 @@ ghost use Rattle.model.specs.Names.{algorithm_named};
 ghost use Rattle.model.specs.Resolver.{closed, unheard, offered_by, renewed_in, adopted_by, keyless, moved, is_mode, moved_by, read_reply};
 ghost use Rattle.records.specs.Record.{Within, cut};
 ghost use Rattle.answers.specs.Answer.{answer_from, shown, FoundFits};
-ghost use Rattle.resolver_replies.specs.Hearing.{key_from, offering, adopting, AnswerMoves, Accepts, Hears, HearsSigned, HearsAwaited};
+ghost use Rattle.resolver_replies.specs.Hearing.{number_of, heard_in, key_from, offering, adopting, AnswerMoves, Accepts, Hears, HearsSigned, HearsAwaited};
 
 use answers::{AnswerFields, AnswerFound};
-use model::{Algorithm, Asking, Heard, Holding, OpenRequest, Resolver, ResolverKey};
+use contents::Contents;
+use model::{Algorithm, Asking, Heard, Holding, Resolver, ResolverKey};
 use tsig::Signer;
 
-// ── What a reply moves ──────────────────────────────────────────────────────────────────────────────────────────────
+// ── Refusals ────────────────────────────────────────────────────────────────────────────────────────────────────────
 
-fn close_request(s: Resolver) -> Resolver
-    ensures { result ≡ closed s }
-{
-    let holding = s.holding;
-    let adopted = s.adopted;
-    let offered = s.offered;
-    let awaited = None;
-    Resolver {
-        holding,
-        adopted,
-        offered,
-        awaited,
-        offered_signs: s.offered_signs,
+// Why a reply is not heard.
+#[derive(Clone, Copy)]
+enum Refusal {
+    Lost,
+    WrongId,
+    Unsigned,
+    Format,
+}
+
+impl Refusal {
+    fn number(self) -> u64
+        ensures { result ≡ number_of self }
+    {
+        match self {
+            Refusal::Lost => 1,
+            Refusal::WrongId => 2,
+            Refusal::Unsigned => 3,
+            Refusal::Format => 4,
+        }
     }
 }
 
-// The key whose name is the first n octets of `owner`.
-fn key_from(
-    owner: &[u8; 255],
-    n: usize,
-    algorithm: Algorithm,
-    inception: u32,
-    expiration: u32,
-) -> ResolverKey
-    requires { n ≤ 255 }
-    ensures { result ≡ key_from (take n owner.now) algorithm inception expiration }
+// ── What a reply moves ──────────────────────────────────────────────────────────────────────────────────────────────
+
+#[tactic(auto, unfolding(model::specs::Resolver::closed))]
+fn close_request(s: Resolver) -> Resolver
+    ensures { result ≡ closed s }
 {
-    let all = &owner[..];
+    Resolver { awaited: None, ..s }
+}
+
+// The key of this name.
+fn key_from(owner: &[u8], algorithm: Algorithm, inception: u32, expiration: u32) -> ResolverKey
+    requires { length owner.now ≤ 255 }
+    ensures { result ≡ key_from owner.now algorithm inception expiration }
+{
     let mut name = [0u8; 255];
-    let length = octets::all_into(&mut name[..], 0, &all[..n]);
+    let length = octets::all_into(&mut name[..], 0, owner);
     ResolverKey {
         name,
         length,
@@ -58,36 +67,23 @@ fn key_from(
 fn offer(s: Resolver, offered: ResolverKey) -> Resolver
     ensures { result ≡ offering s offered }
 {
-    let holding = Holding::AdoptedAndOffered;
-    let adopted = s.adopted;
-    let awaited = s.awaited;
     Resolver {
-        holding,
-        adopted,
+        holding: Holding::AdoptedAndOffered,
         offered,
-        awaited,
         offered_signs: false,
+        ..s
     }
 }
 
-// The key that a TKEY grants: its name is the first n octets of `owner`, its other fields are those of the message m.
-fn offer_granted(
-    s: Resolver,
-    m: &[u8],
-    owner: &[u8; 255],
-    n: usize,
-    fields: AnswerFields,
-) -> Resolver
-    requires { (n ≤ 255) × Within m.now fields.algorithm }
-    ensures { result ≡ offered_by s (answer_from m.now (take n owner.now) fields)
+// The key that a TKEY grants: its name is `owner`, its other fields are those of the message m.
+fn offer_granted(s: Resolver, m: &[u8], owner: &[u8], fields: AnswerFields) -> Resolver
+    requires { (length owner.now ≤ 255) × Within m.now fields.algorithm }
+    ensures { result ≡ offered_by s (answer_from m.now owner.now fields)
         (algorithm_named (cut m.now fields.algorithm)) }
 {
-    let span = fields.algorithm;
-    match names::algorithm_named(records::part_of(m, span)) {
+    match names::algorithm_named(records::part_of(m, fields.algorithm)) {
         Some(algorithm) => {
-            let inception = fields.inception;
-            let expiration = fields.expiration;
-            let key = key_from(owner, n, algorithm, inception, expiration);
+            let key = key_from(owner, algorithm, fields.inception, fields.expiration);
             offer(s, key)
         }
         None => s,
@@ -95,15 +91,13 @@ fn offer_granted(
 }
 
 // A granted renewal moves nothing where there is no key to renew.
-fn renew(s: Resolver, m: &[u8], owner: &[u8; 255], n: usize, fields: AnswerFields) -> Resolver
-    requires { (n ≤ 255) × Within m.now fields.algorithm }
-    ensures { result ≡ renewed_in s.holding s (answer_from m.now (take n owner.now) fields) }
+fn renew(s: Resolver, m: &[u8], owner: &[u8], fields: AnswerFields) -> Resolver
+    requires { (length owner.now ≤ 255) × Within m.now fields.algorithm }
+    ensures { result ≡ renewed_in s.holding s (answer_from m.now owner.now fields) }
 {
-    let holding = s.holding;
-    match holding {
+    match s.holding {
         Holding::Nothing => s,
-        Holding::Adopted => offer_granted(s, m, owner, n, fields),
-        Holding::AdoptedAndOffered => offer_granted(s, m, owner, n, fields),
+        Holding::Adopted | Holding::AdoptedAndOffered => offer_granted(s, m, owner, fields),
     }
 }
 
@@ -111,15 +105,10 @@ fn renew(s: Resolver, m: &[u8], owner: &[u8; 255], n: usize, fields: AnswerField
 fn take_offered(s: Resolver) -> Resolver
     ensures { result ≡ adopting s }
 {
-    let holding = Holding::Adopted;
-    let offered = s.offered;
-    let awaited = s.awaited;
     Resolver {
-        holding,
-        adopted: offered,
-        offered,
-        awaited,
-        offered_signs: s.offered_signs,
+        holding: Holding::Adopted,
+        adopted: s.offered,
+        ..s
     }
 }
 
@@ -127,46 +116,31 @@ fn take_offered(s: Resolver) -> Resolver
 fn adopt(s: Resolver) -> Resolver
     ensures { result ≡ adopted_by s.holding s }
 {
-    let holding = s.holding;
-    match holding {
-        Holding::Nothing => s,
-        Holding::Adopted => s,
+    match s.holding {
+        Holding::Nothing | Holding::Adopted => s,
         Holding::AdoptedAndOffered => take_offered(s),
     }
 }
 
 // Deleting the adopted key drops the offered one too.
+#[tactic(auto, unfolding(model::specs::Resolver::keyless))]
 fn drop_keys(s: Resolver) -> Resolver
     ensures { result ≡ keyless s }
 {
-    let holding = Holding::Nothing;
-    let adopted = s.adopted;
-    let offered = s.offered;
-    let awaited = s.awaited;
     Resolver {
-        holding,
-        adopted,
-        offered,
-        awaited,
-        offered_signs: s.offered_signs,
+        holding: Holding::Nothing,
+        ..s
     }
 }
 
 // What the TKEY with these fields moves, of the mode that was asked for.
-fn moved_as(
-    asking: Asking,
-    s: Resolver,
-    m: &[u8],
-    owner: &[u8; 255],
-    n: usize,
-    fields: AnswerFields,
-) -> Resolver
-    requires { (n ≤ 255) × Within m.now fields.algorithm }
-    ensures { result ≡ moved asking s (answer_from m.now (take n owner.now) fields) }
+fn moved_as(asking: Asking, s: Resolver, m: &[u8], owner: &[u8], fields: AnswerFields) -> Resolver
+    requires { (length owner.now ≤ 255) × Within m.now fields.algorithm }
+    ensures { result ≡ moved asking s (answer_from m.now owner.now fields) }
 {
     match asking {
         Asking::Ordinary => s,
-        Asking::Renewal => renew(s, m, owner, n, fields),
+        Asking::Renewal => renew(s, m, owner, fields),
         Asking::Adoption => adopt(s),
         Asking::Deletion => drop_keys(s),
     }
@@ -204,7 +178,7 @@ fn moved_by(
             if fields.error != 0 {
                 return s;
             }
-            moved_as(asking, s, m, owner, name, fields)
+            moved_as(asking, s, m, &owner[..name], fields)
         }
     }
 }
@@ -223,19 +197,12 @@ fn moved_in(s: Resolver, asking: Asking, m: &[u8], end: usize) -> Resolver
 // ── Reading a reply ─────────────────────────────────────────────────────────────────────────────────────────────────
 
 // Closes the request. Only a response with no error in its header and in its TSIG, which is `error`, moves more.
-fn accept(
-    s: Resolver,
-    asking: Asking,
-    m: &[u8],
-    end: usize,
-    response: bool,
-    error: usize,
-) -> Resolver
+fn accept(s: Resolver, asking: Asking, m: &[u8], c: &Contents, error: usize) -> Resolver
     requires { 12 ≤ length m.now }
-    ensures { Accepts s asking m.now end response error result }
+    ensures { Accepts s asking m.now c.now.end c.now.response error result }
 {
     let after = close_request(s);
-    if !response {
+    if !c.response {
         return after;
     }
     if octets::wide(m[3]) % 16 != 0 {
@@ -244,29 +211,19 @@ fn accept(
     if error != 0 {
         return after;
     }
-    moved_in(after, asking, m, end)
+    moved_in(after, asking, m, c.end)
 }
 
 // A message past the checks, with this TSIG error; in a reply PartialRevoke says that renewal is due.
-fn hear(s: Resolver, asking: Asking, m: &[u8], end: usize, response: bool, error: usize) -> Heard
+fn hear(s: Resolver, asking: Asking, m: &[u8], c: &Contents, error: usize) -> Heard
     requires { 12 ≤ length m.now }
-    ensures { Hears s asking m.now end response error result }
+    ensures { Hears s asking m.now c.now.end c.now.response error result }
 {
-    let state = accept(s, asking, m, end, response, error);
+    let state = accept(s, asking, m, c, error);
     Heard {
         number: 0,
-        due: response & (error == 3841),
+        due: c.response & (error == 3841),
         state,
-    }
-}
-
-fn refuse_reply(s: Resolver, number: u64) -> Heard
-    ensures { result ≡ unheard s number }
-{
-    Heard {
-        number,
-        due: false,
-        state: s,
     }
 }
 
@@ -276,59 +233,59 @@ fn hear_signed(
     asking: Asking,
     good: bool,
     m: &[u8],
-    end: usize,
-    response: bool,
-    signer: Signer,
-) -> Heard
+    c: &Contents,
+) -> Result<Heard, Refusal>
     requires { 12 ≤ length m.now }
-    ensures { HearsSigned s asking good m.now end response signer result }
+    ensures { HearsSigned s asking good m.now c.now.end c.now.response c.now.signer
+        (heard_in s result) }
 {
-    match signer {
-        Signer::Nobody => refuse_reply(s, 3),
-        Signer::Ill => refuse_reply(s, 3),
+    match c.signer {
+        Signer::Nobody | Signer::Ill => Err(Refusal::Unsigned),
         Signer::Key { place: _, fields } => {
             if !good {
-                return refuse_reply(s, 3);
+                return Err(Refusal::Unsigned);
             }
-            hear(s, asking, m, end, response, fields.error)
+            Ok(hear(s, asking, m, c, fields.error))
         }
     }
 }
 
 // LOST, WRONGID, then as above.
-fn hear_awaited(
-    s: Resolver,
-    good: bool,
-    m: &[u8],
-    end: usize,
-    response: bool,
-    signer: Signer,
-) -> Heard
+fn hear_awaited(s: Resolver, good: bool, m: &[u8], c: &Contents) -> Result<Heard, Refusal>
     requires { 12 ≤ length m.now }
-    ensures { HearsAwaited s good m.now end response signer result }
+    ensures { HearsAwaited s good m.now c.now.end c.now.response c.now.signer (heard_in s result) }
 {
-    let awaited = s.awaited;
-    match awaited {
-        None => refuse_reply(s, 1),
-        Some(OpenRequest { id, asking }) => {
-            let answered = records::id(m) as u16;
-            if answered != id {
-                return refuse_reply(s, 2);
-            }
-            hear_signed(s, asking, good, m, end, response, signer)
-        }
+    let Some(request) = s.awaited else {
+        return Err(Refusal::Lost);
+    };
+    let answered = records::id(m) as u16;
+    if answered != request.id {
+        return Err(Refusal::WrongId);
+    }
+    hear_signed(s, request.asking, good, m, c)
+}
+
+// FORMAT, then as above.
+fn hear_message(s: Resolver, good: bool, m: &[u8]) -> Result<Heard, Refusal>
+    ensures { heard_in s result ≡ read_reply s good m.now }
+{
+    match contents::read(m) {
+        Err(_) => Err(Refusal::Format),
+        Ok(c) => hear_awaited(s, good, m, &c),
     }
 }
 
-// Reads a reply: FORMAT, LOST, WRONGID, UNSIGNED, then what it moves. `good` is the caller's verdict on its MAC and its time.
+// Reads a reply: FORMAT, LOST, WRONGID, UNSIGNED, then what it moves; a refusal moves nothing. `good` is the caller's verdict on its MAC and its time.
+#[tactic(auto, unfolding(model::specs::Resolver::unheard))]
 pub fn read_reply(s: Resolver, good: bool, m: &[u8]) -> Heard
     ensures { result ≡ read_reply s good m.now }
 {
-    match contents::read(m) {
-        Err(_) => refuse_reply(s, 4),
-        Ok(c) => {
-            let signer = c.signer;
-            hear_awaited(s, good, m, c.end, c.response, signer)
-        }
+    match hear_message(s, good, m) {
+        Ok(heard) => heard,
+        Err(refusal) => Heard {
+            number: refusal.number(),
+            due: false,
+            state: s,
+        },
     }
 }

@@ -7,7 +7,8 @@ use native.Mathlib.Omega.{arith}
 use lib.Dec.{eqb}
 use lib.ListN.{length, take, drop_of_length-le}
 use lib.Seq.{take_at, drop_at, take_all}
-use Rattle.std.specs.Prelude.{Option, Some, None}
+use Rattle.std.specs.Prelude.{Option, Some, None, Result, Ok, Err, is_some, is_ok, unwrap_or}
+use Rattle.std.specs.Result.{result_ok, result_unwrap_or}
 use Rattle.model.specs.declared.Algorithm.{Algorithm}
 use Rattle.model.specs.declared.Algorithm.TheVariants.{Sha256, Sha384, Sha512}
 use Rattle.model.specs.declared.Holding.{Holding}
@@ -15,10 +16,10 @@ use Rattle.model.specs.declared.Asking.{Asking}
 use Rattle.model.specs.declared.Asking.TheVariants.{Ordinary, Renewal, Adoption, Deletion}
 use Rattle.model.specs.declared.Resolver.{Resolver}
 use Rattle.model.specs.Octets.{put, part}
-use Rattle.model.specs.Names.{algorithm_numbered}
+use Rattle.model.specs.Names.{algorithm_numbered, algorithm_number}
 use Rattle.octets.specs.Wrote.{Wrote}
 use Rattle.octets.proofs.Laws.{wrote_put}
-use Rattle.resolver_state.specs.State.{asking_word, key_in, holding_by, request_by, resolver_of, number_of, holding_word, request_word, id_word, state_words, state_names, WordsStored, NamesStored, Stored}
+use Rattle.resolver_state.specs.State.{asking_word, key_in, holding_by, request_by, resolver_of, holding_word, request_word, id_word, state_words, state_names, WordsStored, NamesStored, Stored}
 use Rattle.model.specs.declared.OpenRequest.{OpenRequest}
 
 -- a buffer written over from its first octet to its last
@@ -28,7 +29,16 @@ wrote_all {xs} {b} w e =
     let h : length b ≤ length xs = omega arith in
     (wrote_put w).1 ∙ rw (drop_of_length-le b h, append-nil)
 
-algorithm_back : (g : Algorithm) → algorithm_numbered (number_of g) ≡ Some g
+-- the tests and the default of a conversion, by what it says of its value
+pub unwrapped : {T E : Type 0} (r : Result T E) (o : Option T) (x : T) → o ≡ result_ok r → result_unwrap_or r x ≡ unwrap_or o x
+unwrapped (Ok y) o x e = rw e refl
+unwrapped (Err y) o x e = rw e refl
+
+pub known : {T E : Type 0} (r : Result T E) (o : Option T) → o ≡ result_ok r → is_ok r ≡ is_some o
+known (Ok y) o e = rw e refl
+known (Err y) o e = rw e refl
+
+algorithm_back : (g : Algorithm) → algorithm_numbered (algorithm_number g) ≡ Some g
 unfolding algorithm_numbered
 algorithm_back Sha256 = refl
 algorithm_back Sha384 = refl

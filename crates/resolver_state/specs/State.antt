@@ -10,36 +10,26 @@
 --
 -- The adopted key's name lies in the octets 0 .. 254, the offered key's in 255 .. 509. Every content of words and octets is a state: times are read modulo
 -- 2^32, IDs modulo 2^16, and a key whose algorithm's word is none of the three is not held. Assumes nothing.
-use Rattle.std.specs.Prelude.{ℕ, ◌+◌, ◌%◌, ◌<◌, ◌≡◌, Bool, true, false, cond, List, [], ◌∷◌, ◌++◌, length, get_or, eqb, Option, Some, None}
-use Rattle.model.specs.declared.Algorithm.{Algorithm}
-use Rattle.model.specs.declared.Algorithm.TheVariants.{Sha256, Sha384, Sha512}
+use Rattle.std.specs.Prelude.{ℕ, ◌+◌, ◌%◌, ◌<◌, ◌≡◌, Bool, cond, List, [], ◌∷◌, ◌++◌, length, get_or, eqb, is_some, unwrap_or, Option, Some, None}
+use Rattle.model.specs.declared.Algorithm.TheVariants.{Sha512}
 use Rattle.model.specs.declared.ResolverKey.{ResolverKey}
 use Rattle.model.specs.declared.Holding.{Holding}
 use Rattle.model.specs.declared.Asking.{Asking}
 use Rattle.model.specs.declared.Asking.TheVariants.{Ordinary, Renewal, Adoption, Deletion}
 use Rattle.model.specs.declared.Resolver.{Resolver}
 use Rattle.model.specs.Octets.{part}
-use Rattle.model.specs.Names.{algorithm_numbered}
+use Rattle.model.specs.Names.{algorithm_numbered, algorithm_number}
 use Rattle.model.specs.declared.OpenRequest.{OpenRequest}
 
 -- ── What they show ──────────────────────────────────────────────────────────────────────────────────────────────────
 
-abbrev pub is_known : Option Algorithm → Bool
-is_known (Some g) = true
-is_known None = false
-
--- The algorithm of a key that is not held has no meaning.
-abbrev pub algorithm_or : Option Algorithm → Algorithm
-algorithm_or (Some g) = g
-algorithm_or None = Sha512
-
--- The key in the four words from the word i on, its name in the 255 octets from the place `at` on.
+-- The key in the four words from the word i on, its name in the 255 octets from the place `at` on. The algorithm of a key that is not held has no meaning.
 unfoldable pub key_in : List ℕ → ℕ → List ℕ → ℕ → ResolverKey
 key_in w i names at =
     record {
       name = part names at 255;
       length = get_or w i 0;
-      algorithm = algorithm_or (algorithm_numbered (get_or w (i + 1) 0));
+      algorithm = unwrap_or (algorithm_numbered (get_or w (i + 1) 0)) Sha512;
       inception = get_or w (i + 2) 0 % 4294967296;
       expiration = get_or w (i + 3) 0 % 4294967296;
     }
@@ -66,7 +56,7 @@ request_by tag id =
 unfoldable pub resolver_of : List ℕ → List ℕ → Resolver
 resolver_of w names =
     record {
-      holding = holding_by (get_or w 0 0) (is_known (algorithm_numbered (get_or w 2 0))) (is_known (algorithm_numbered (get_or w 6 0)));
+      holding = holding_by (get_or w 0 0) (is_some (algorithm_numbered (get_or w 2 0))) (is_some (algorithm_numbered (get_or w 6 0)));
       adopted = key_in w 1 names 0;
       offered = key_in w 5 names 255;
       awaited = request_by (get_or w 9 0) (get_or w 10 0);
@@ -74,11 +64,6 @@ resolver_of w names =
     }
 
 -- ── A state as words and octets ─────────────────────────────────────────────────────────────────────────────────────
-
-abbrev pub number_of : Algorithm → ℕ
-number_of Sha256 = 256
-number_of Sha384 = 384
-number_of Sha512 = 512
 
 abbrev pub holding_word : Holding → ℕ
 holding_word Holding.Nothing = 0
@@ -103,8 +88,8 @@ id_word (Some q) = q.id
 unfoldable pub state_words : Resolver → List ℕ
 state_words s =
     holding_word s.holding
-    ∷ s.adopted.length ∷ number_of s.adopted.algorithm ∷ s.adopted.inception ∷ s.adopted.expiration
-    ∷ s.offered.length ∷ number_of s.offered.algorithm ∷ s.offered.inception ∷ s.offered.expiration
+    ∷ s.adopted.length ∷ algorithm_number s.adopted.algorithm ∷ s.adopted.inception ∷ s.adopted.expiration
+    ∷ s.offered.length ∷ algorithm_number s.offered.algorithm ∷ s.offered.inception ∷ s.offered.expiration
     ∷ request_word s.awaited ∷ id_word s.awaited ∷ cond s.offered_signs 1 0 ∷ []
 
 unfoldable pub state_names : Resolver → List ℕ

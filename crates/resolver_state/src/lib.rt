@@ -2,42 +2,11 @@
 #![tactic(auto)]
 
 ghost use Rattle.std.specs.Prelude.{◌≡◌, cond, ◌+◌, ◌%◌, ◌≤◌, ◌<◌};
-ghost use Rattle.model.specs.Names.{algorithm_numbered};
-ghost use Rattle.resolver_state.specs.State.{is_known, algorithm_or, key_in, holding_by, request_by, resolver_of, number_of, holding_word, asking_word, request_word, id_word, WordsStored, NamesStored, Stored};
+ghost use Rattle.resolver_state.specs.State.{key_in, holding_by, request_by, resolver_of, holding_word, asking_word, request_word, id_word, WordsStored, NamesStored, Stored};
 
 use model::{Algorithm, Asking, Holding, OpenRequest, Resolver, ResolverKey};
 
 // ── Reading ─────────────────────────────────────────────────────────────────────────────────────────────────────────
-
-// The algorithm with this number.
-pub fn algorithm_numbered(n: u64) -> Option<Algorithm>
-    ensures { result ≡ algorithm_numbered n }
-{
-    match n {
-        256 => Some(Algorithm::Sha256),
-        384 => Some(Algorithm::Sha384),
-        512 => Some(Algorithm::Sha512),
-        _ => None,
-    }
-}
-
-fn is_known(n: u64) -> bool
-    ensures { result ≡ is_known (algorithm_numbered n) }
-{
-    match algorithm_numbered(n) {
-        Some(_) => true,
-        None => false,
-    }
-}
-
-fn algorithm_or(n: u64) -> Algorithm
-    ensures { result ≡ algorithm_or (algorithm_numbered n) }
-{
-    match algorithm_numbered(n) {
-        Some(g) => g,
-        None => Algorithm::Sha512,
-    }
-}
 
 // The key in the four words from the word i on.
 fn key_in(words: &[u64; 12], i: usize, names: &[u8; 510], at: usize) -> ResolverKey
@@ -46,7 +15,7 @@ fn key_in(words: &[u64; 12], i: usize, names: &[u8; 510], at: usize) -> Resolver
 {
     let mut name = [0u8; 255];
     octets::part_into(&mut name[..], 0, &names[..], at, 255);
-    let algorithm = algorithm_or(words[i + 1]);
+    let algorithm = Algorithm::try_from(words[i + 1]).unwrap_or(Algorithm::Sha512);
     ResolverKey {
         name,
         length: words[i] as usize,
@@ -100,7 +69,9 @@ fn request_by(tag: u64, id: u64) -> Option<OpenRequest>
 pub fn load(words: &[u64; 12], names: &[u8; 510]) -> Resolver
     ensures { result ≡ resolver_of words.now names.now }
 {
-    let holding = holding_by(words[0], is_known(words[2]), is_known(words[6]));
+    let adopted_known = Algorithm::try_from(words[2]).is_ok();
+    let offered_known = Algorithm::try_from(words[6]).is_ok();
+    let holding = holding_by(words[0], adopted_known, offered_known);
     let adopted = key_in(words, 1, names, 0);
     let offered = key_in(words, 5, names, 255);
     let awaited = request_by(words[9], words[10]);
@@ -114,16 +85,6 @@ pub fn load(words: &[u64; 12], names: &[u8; 510]) -> Resolver
 }
 
 // ── Writing ─────────────────────────────────────────────────────────────────────────────────────────────────────────
-
-fn number_of(g: Algorithm) -> u64
-    ensures { result ≡ number_of g }
-{
-    match g {
-        Algorithm::Sha256 => 256,
-        Algorithm::Sha384 => 384,
-        Algorithm::Sha512 => 512,
-    }
-}
 
 fn holding_word(holding: Holding) -> u64
     ensures { result ≡ holding_word holding }
@@ -180,8 +141,8 @@ fn store_words(words: &mut [u64; 12], s: Resolver)
     let h = o.algorithm;
     let awaited = s.awaited;
     let tag = holding_word(holding);
-    let first = number_of(g);
-    let second = number_of(h);
+    let first = u64::from(g);
+    let second = u64::from(h);
     let asking = request_word(awaited);
     let id = id_word(awaited);
     let signs = signs_word(s.offered_signs);

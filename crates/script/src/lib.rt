@@ -207,12 +207,7 @@ impl<'l, 'a> Words<'l, 'a> {
 
     // An algorithm that the resolver knows.
     fn algorithm(&mut self) -> Option<Algorithm> {
-        match self.number()? {
-            256 => Some(Algorithm::Sha256),
-            384 => Some(Algorithm::Sha384),
-            512 => Some(Algorithm::Sha512),
-            _ => None,
-        }
+        Algorithm::try_from(self.number()?).ok()
     }
 
     // Octets, from hexadecimal; `-` for none. They take the front of the arena that is free.

@@ -13,7 +13,7 @@ ghost use Rattle.server.specs.Serve.{Answered, AnsweredRest, RowKept, FoundIn, o
 
 use judging::Owner;
 use model::{Answer, Verdicts};
-use outcomes::Refusal;
+use results::Refusal;
 use step::Step;
 
 // Stores the pair of a row as a step left it, unless the step left it as it was; a refused one does.

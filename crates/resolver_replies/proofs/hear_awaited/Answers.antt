@@ -2,11 +2,11 @@
 use Rattle.resolver_replies.proofs.Hearing.{lost, wrong_id, right_id}
 use Rattle.resolver_replies.proofs.hear_awaited.Goals as goal
 
-pub returns-then-answered-id : goal.returns-then-answered-id
-returns-then-answered-id c = wrong_id _ _ _ _ _ _ _ _ _ c.in-Some.is _ c.id-answered.ensures.0 c.if-answered-id.true c.refuse_reply-then-answered-id.ensures
+pub returns-in_default : goal.returns-in_default
+returns-in_default c = lost _ _ _ _ _ _ c.in_default.is
 
-pub returns-in-None : goal.returns-in-None
-returns-in-None c = lost _ _ _ _ _ _ _ c.in-None.is c.refuse_reply.ensures
+pub returns-then-answered-request : goal.returns-then-answered-request
+returns-then-answered-request c = wrong_id _ _ _ _ _ _ _ c.in-Some.is _ c.id-answered.ensures.0 c.if-answered-request.true
 
-pub returns-else-answered-id : goal.returns-else-answered-id
-returns-else-answered-id c = right_id _ _ _ _ _ _ _ _ _ c.in-Some.is _ c.id-answered.ensures.0 c.if-answered-id.false c.hear_signed.ensures
+pub returns : goal.returns
+returns c = right_id _ _ _ _ _ _ _ c.in-Some.is _ c.id-answered.ensures.0 _ c.if-answered-request.false c.hear_signed.ensures

@@ -9,7 +9,7 @@ pub returns-then-fields-ne0 : goal.returns-then-fields-ne0
 returns-then-fields-ne0 c = by_error _ _ _ _ _ _ _ c.in-Some.is _ c.is_mode.ensures c.if-not-is_mode.false c.if-fields-ne0.true
 
 pub moved_as-requires : goal.moved_as-requires
-moved_as-requires c = by_fits _ _ _ _ c.in-Some.is c.requires
+moved_as-requires c = by_fits _ _ _ _ _ c.in-Some.is c.requires
 
 pub returns-in-None : goal.returns-in-None
 returns-in-None c = by_none _ _ _ _ _ c.in-None.is

@@ -9,7 +9,7 @@ unfolding state_words
 returns c =
     let n = c.id_word-id.ensures in
     record {
-      says = simp (c.signs_word-signs.ensures, n.0, c.request_word-asking.ensures, c.number_of-second.ensures, c.number_of-first.ensures, c.holding_word-tag.ensures);
+      says = simp (c.signs_word-signs.ensures, n.0, c.request_word-asking.ensures, c.from-second.ensures, c.from-first.ensures, c.holding_word-tag.ensures);
       adopted = record { inception = search rules; expiration = search rules };
       offered = record { inception = search rules; expiration = search rules };
       id = omega (arith, n.0, n.1);

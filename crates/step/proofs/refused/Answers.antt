@@ -1,8 +1,6 @@
 -- `step::refused` meets its contract. Assumes nothing.
-use mathlib.Core.Path.{ap}
-use Rattle.model.specs.declared.Answer.{Answer}
-use Rattle.std.specs.Prelude.{None}
+use mathlib.Core.Path.{refl}
 use Rattle.step.proofs.refused.Goals as goal
 
 pub returns : goal.returns
-returns c = ap (λ (a : Answer). record { answer = a; after = None }) c.bare.ensures
+returns c = rw (c.bare.ensures, c.number.ensures) refl

@@ -5,4 +5,4 @@ use Rattle.store.proofs.key_into.Goals as goal
 
 pub returns : goal.returns
 unfolding key_words
-returns c = (search rules, rw c.number_of.ensures at c.five_into.ensures.1)
+returns c = (search rules, rw c.from.ensures at c.five_into.ensures.1)

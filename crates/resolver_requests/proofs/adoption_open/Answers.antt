@@ -1,0 +1,25 @@
+-- `resolver_requests::adoption_open` meets its contract. Assumes nothing.
+use mathlib.Core.Path.{ap, sym, ◌∙◌}
+use Rattle.std.specs.Prelude.{option_copied}
+use Rattle.std.proofs.lemmas.Result.{err_from_is_err_and}
+use Rattle.resolver_requests.proofs.Sent.{no_key, adoption_refused, adoption_unoffered, adoption_sent}
+use Rattle.resolver_requests.proofs.adoption_open.Goals as goal
+
+pub returns-in_err-adopted : goal.returns-in_err-adopted
+returns-in_err-adopted c =
+    let p = err_from_is_err_and c.from_residual.result c.from_residual.ensures.1 in
+    rw (p.1, p.2, no_key _ _ (sym c.in_err-adopted.ensures.value) c.in_err-adopted.ensures.ok_part)
+    (adoption_refused _ _ _ (sym c.adopted_key.ensures ∙ ap option_copied c.in_err-adopted.ensures.ok_part))
+
+pub returns-in_err-offered : goal.returns-in_err-offered
+returns-in_err-offered c =
+    let p = err_from_is_err_and c.from_residual-in_err-offered.result c.from_residual-in_err-offered.ensures.1 in
+    rw (p.1, p.2, no_key _ _ (sym c.in_err-offered.ensures.value) c.in_err-offered.ensures.ok_part)
+    (adoption_unoffered _ _ _ _ (sym c.adopted_key.ensures ∙ ap option_copied c.in_ok-adopted.ensures.ok_part)
+    (sym c.offered_key.ensures ∙ ap option_copied c.in_err-offered.ensures.ok_part))
+
+pub returns : goal.returns
+returns c =
+    adoption_sent _ _ _ _ (sym c.adopted_key.ensures ∙ ap option_copied c.in_ok-adopted.ensures.ok_part) _ c.name_of-2.ensures.0 _ _ _ _
+    _ (sym c.offered_key.ensures ∙ ap option_copied c.in_ok-offered.ensures.ok_part) _ c.name_of.ensures.0 _
+    c.adoption-n.ensures c.opened-after.ensures c.signer_of.ensures (c.sent_by.ensures _)

@@ -36,26 +36,30 @@ def place(kind, name, what):
     places.setdefault(kind, []).append('%s: %s' % (name, ' '.join(what.split())[:110]))
 
 
+def matches(kind, pattern, texts):
+    """Each match is a place of this kind."""
+    places[kind] = []
+    for name, text in texts:
+        for m in re.finditer(pattern, text, re.M):
+            place(kind, name, m.group(0))
+
+
 functions = []
 for name, text in sources:
     for m in re.finditer(r'^( *)(?:pub )?(?:extern "C" )?fn (\w+)(.*?)\n\1\{\n(.*?)\n\1\}$', text, re.S | re.M):
         functions.append((name, m.group(2), m.group(3), m.group(4)))
 
 # 1. Enums of the shape of Option or Result; numbers for refusals; a flag or a length beside a value
+places['1 two-variant enums, one of them or both with a value'] = []
 for name, text in sources:
     for m in re.finditer(r'enum (\w+)(?:<[^>]*>)? \{(.*?)\n\}', text, re.S):
         variants = re.findall(r'^    (\w+)( ?[({])?', m.group(2), re.M)
         if len(variants) == 2 and any(v[1] for v in variants):
             place('1 two-variant enums, one of them or both with a value', name, m.group(1))
-for kind in ['1 two-variant enums, one of them or both with a value', "1 refusals by a numeral", "1 'number: u64' fields", '1 numbers that stand for none (== 0, != 0)']:
-    places.setdefault(kind, [])
-for name, text in sources:
-    for m in re.finditer(r'\b(?:refused|unread|not_found|not_shown|not_spelt|unsent|refuse_reply|nothing_asked|mend_refused|verdict_of|bare|no_parts)\(\s*(?:s, )?\d+[^\n]*', text):
-        place('1 refusals by a numeral', name, m.group(0))
-    for m in re.finditer(r'^    pub number: u64', text, re.M):
-        place("1 'number: u64' fields", name, m.group(0))
-    for m in re.finditer(r'\b(?:n|end|error|number|next|dropped|kept) (?:==|!=) 0\b', text):
-        place('1 numbers that stand for none (== 0, != 0)', name, m.group(0))
+refusers = 'refused|unread|not_found|not_shown|not_spelt|unsent|refuse_reply|nothing_asked|mend_refused|verdict_of|bare|no_parts'
+matches('1 refusals by a numeral', r'\b(?:%s)\(\s*(?:s, )?\d+[^\n]*' % refusers, sources)
+matches("1 'number: u64' fields", r'^    pub number: u64', sources)
+matches('1 numbers that stand for none (== 0, != 0)', r'\b(?:n|end|error|number|next|dropped|kept) (?:==|!=) 0\b', sources)
 
 # 2. Functions of one text but for names, types and numerals
 def skeleton(body):
@@ -80,16 +84,10 @@ for name, text in sources:
             place('3 of these, such as add or take 1 at each turn', name, m.group(0).split('\n')[0])
 
 # 4. Conversions by hand
-for kind in ['4 casts by as', '4 arms that turn a variant into a number, or back', '4 a choice of two by <']:
-    places[kind] = []
-for name, text in sources:
-    code = re.sub(r'(?:requires|ensures)\*? \{.*?\}\n', '', text, flags=re.S)
-    for m in re.finditer(r'[^\n]*\bas (?:u8|u16|u32|u64|usize|i64)\b', code):
-        place('4 casts by as', name, m.group(0))
-    for m in re.finditer(r'^ *(?:\w+::\w+ => \d+,|\d+ => (?:Some\()?\w+::\w+\)?,)', code, re.M):
-        place('4 arms that turn a variant into a number, or back', name, m.group(0))
-    for m in re.finditer(r'if (\w+) < (\w+) \{\s*(?:return )?\w+;?\s*\}', code):
-        place('4 a choice of two by <', name, m.group(0))
+code = [(name, re.sub(r'(?:requires|ensures)\*? \{.*?\}\n', '', text, flags=re.S)) for name, text in sources]
+matches('4 casts by as', r'[^\n]*\bas (?:u8|u16|u32|u64|usize|i64)\b', code)
+matches('4 arms that turn a variant into a number, or back', r'^ *(?:\w+::\w+ => \d+,|\d+ => (?:Some\()?\w+::\w+\)?,)', code)
+matches('4 a choice of two by <', r'if (\w+) < (\w+) \{\s*(?:return )?\w+;?\s*\}', code)
 
 # 5. Facts and parameters that stand together
 facts = collections.defaultdict(set)
@@ -107,13 +105,9 @@ for name, function, head, body in functions:
 places['5 pairs of parameters that stand side by side in five functions or more'] = ['%s, %s: %d functions' % (a, b, n) for (a, b), n in pairs.most_common() if n >= 5]
 
 # 6. Fixed arrays, spans and lengths
-for kind in ['6 fixed arrays in types', '6 structs with an array and its length']:
-    places[kind] = []
-for name, text in sources:
-    for m in re.finditer(r'[^\n]*\[u(?:8|64); \w+\]', re.sub(r'= \[[^\n]*', '', text)):
-        place('6 fixed arrays in types', name, m.group(0))
-    for m in re.finditer(r'struct \w+ \{(?:(?!\n\}).)*\[u8; \d+\],(?:(?!\n\}).)*length', text, re.S):
-        place('6 structs with an array and its length', name, m.group(0).split('{')[0])
+typed = [(name, re.sub(r'= \[[^\n]*', '', text)) for name, text in sources]
+matches('6 fixed arrays in types', r'[^\n]*\[u(?:8|64); \w+\]', typed)
+matches('6 structs with an array and its length', r'struct \w+ (?=\{(?s:(?:(?!\n\}).)*\[u8; \d+\],(?:(?!\n\}).)*length))', sources)
 
 # 7. Switches on which step to run
 places['7 parameters that are closures, dyn values or function pointers'] = ['%s: %s' % (n, m.group(0)) for n, t in sources for m in re.finditer(r'(?:impl Fn|F: Fn|dyn |: fn\()', t)]

@@ -15,9 +15,9 @@ import tempfile
 
 ROOT = os.path.dirname(os.path.dirname(os.path.abspath(__file__)))
 EDITS = """
-    ordering/case_kept_on_one_side lines/number_with_a_leading_zero_reads messages/left_over_passes
+    names/folds_a_length_octet words/hexadecimal_up_to_g ordering/case_kept_on_one_side lines/number_with_a_leading_zero_reads messages/left_over_passes
     tsig/class_in tkey/left_over_other_data tkey/tkey_of_another_section contents/longest_message_of_65536_octets judging/verdict_ignored
-    operator/enrol_at_floor_2_32 operator/new_table_later operator/serial_2_32_issued operator/sixty_five_rows resolver_requests/empty_name_written_as_it_is
+    operator/enrol_at_floor_2_32 operator/new_table_later operator/serial_2_32_issued operator/sixty_five_rows
     resolver_replies/any_id_is_answered resolver_replies/tkey_error_not_looked_at granted/key_data_beside_an_error capi_resolver/refusal_stores_the_state
 """.split()
 KEY = re.compile(r"Rattle-\w+-proofs\.(.*)\.Lts$")
@@ -49,6 +49,9 @@ def renamed(before, after):
     for old, new in zip(before, after):
         if len(old) == len(new):
             names.update((a, b) for a, b in zip(old, new) if a and b and a != b)
+    # where ways meet, a way is named after the tests that it has passed
+    tests = [(a[3:], b[3:]) for a, b in names.items() if a.startswith("if-")]
+    names.update((way + a, way + b) for a, b in tests for way in ("then-", "else-"))
     return names
 
 
@@ -78,6 +81,8 @@ def tried(copy, edit):
     before = generated(crate)
     functions = apply(crate, edit.split("/")[1])
     after = generated(crate)
+    # of functions of one name, the one whose goals have other names now
+    only = ["::".join([edit.split("/")[0], *path.split("/")]) for path in before if path.split("/")[-1] in functions and after.get(path) != before[path]]
     for path in before:
         names = renamed(before[path], after.get(path, ()))
         for file in ("Answers.antt", "Invariants.antt"):
@@ -88,7 +93,7 @@ def tried(copy, edit):
                 either = "|".join(sorted(map(re.escape, names), key=len, reverse=True))
                 with open(proof, "w", encoding="utf-8") as f:
                     f.write(re.sub(rf"(?<![\w'-])({either})(?![\w'-])", lambda m: names[m[1]], text))
-    said = rt(crate, "check", *[w for function in sorted(functions) for w in ("--only", function)])
+    said = rt(crate, "check", *[w for function in only or sorted(functions) for w in ("--only", function)])
     # as it was, for the edits of the crates above it
     shutil.rmtree(crate)
     shutil.copytree(os.path.join(ROOT, "crates", edit.split("/")[0]), crate, symlinks=True)

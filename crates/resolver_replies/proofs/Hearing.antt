@@ -36,7 +36,9 @@ use Rattle.contents.specs.declared.Unread.TheVariants.{Size, Broken}
 use Rattle.contents.specs.Contents.{ContentsRead, ReadAs}
 use Rattle.answers.specs.declared.AnswerFields.{AnswerFields}
 use Rattle.answers.specs.Answer.{answer_from, shown, FoundFits, AnswerRead}
-use Rattle.resolver_replies.specs.Hearing.{key_from, offering, AnswerMoves, Accepts, Hears, HearsSigned, HearsAwaited}
+use Rattle.resolver_replies.specs.Hearing.{key_from, offering, AnswerMoves, Accepts, Hears, HearsSigned, HearsAwaited, number_of, Passes, Checked}
+use Rattle.resolver_replies.specs.declared.Passed.{Passed}
+use Rattle.resolver_replies.specs.declared.Refusal.{Refusal}
 use Rattle.answers.specs.declared.AnswerFound.{AnswerFound}
 
 -- ── What a TKEY moves ───────────────────────────────────────────────────────────────────────────────────────────────
@@ -141,8 +143,13 @@ module _ (s : Resolver) (good : Bool) (m : List ℕ) (end : ℕ) (response : Boo
     unfolding WRONGID
     wrong_id k = record { says = λ q w e. rw (h, w.id ∙ sym is, ne_eqb x p.id k) refl }
 
-    pub right_id : (r : Heard) → x ≡ p.id → HearsSigned s p.asking good m end response g r → HearsAwaited s good m end response g r
-    right_id r k i = record { says = λ q w e. i.says q w ∙ rw (h, w.id ∙ sym is, eq-eqb x p.id k, e) refl }
+    right_reply : (r : Heard) → x ≡ p.id → HearsSigned s p.asking good m end response g r → HearsAwaited s good m end response g r
+    right_reply r k i = record { says = λ q w e. i.says q w ∙ rw (h, w.id ∙ sym is, eq-eqb x p.id k, e) refl }
+
+    pub right_id : (o : Result Passed Refusal) → x ≡ p.id → Passes s m (HearsSigned s p.asking good m end response g) o
+        → Passes s m (HearsAwaited s good m end response g) o
+    right_id (Ok a) k i = λ r j. right_reply r k (i r j)
+    right_id (Err e) k i = right_reply (unheard s (number_of e)) k i
 
 module _ (s : Resolver) (good : Bool) (m : List ℕ) (o : Result Contents Unread) (q : ReadAs m o) where
   pub unread : (u : Unread) → o ≡ Err u → unheard s 4 ≡ read_reply s good m
@@ -150,12 +157,29 @@ module _ (s : Resolver) (good : Bool) (m : List ℕ) (o : Result Contents Unread
   unread Size e = rw (subst (ReadAs m) e q) refl
   unread (Broken place) e = let x : (size_ok m ≡ true) × (read_message m ≡ stops place) = subst (ReadAs m) e q in rw (x.0, x.1) refl
 
-  pub well_formed_lem : (c : Contents) → o ≡ Ok c → (r : Heard) → HearsAwaited s good m c.end c.response c.signer r → r ≡ read_reply s good m
+  well_formed_reply : (c : Contents) → o ≡ Ok c → (r : Heard) → HearsAwaited s good m c.end c.response c.signer r → r ≡ read_reply s good m
   unfolding read_reply
-  well_formed_lem c e r i =
+  well_formed_reply c e r i =
       let x : ContentsRead m c = subst (ReadAs m) e q in
       i.says x.message (record { says = x.says; after = x.after; within = x.within; octets = x.octets; id = x.id; responds = x.response }) x.signing
       ∙ rw (x.sized, x.says) refl
 
-pub whole_from : (m : List ℕ) {o : Result Contents Unread} {c : Contents} → ReadAs m o → o ≡ Ok c → 12 ≤ length m
-whole_from m {c = c} q e = let x : ContentsRead m c = subst (ReadAs m) e q in omega arith
+  pub whole_from : (c : Contents) → o ≡ Ok c → 12 ≤ length m
+  whole_from c e = let x : ContentsRead m c = subst (ReadAs m) e q in omega arith
+
+  pub well_formed_lem : (c : Contents) → o ≡ Ok c → (a : Result Passed Refusal) → Passes s m (HearsAwaited s good m c.end c.response c.signer) a → Checked s good m a
+  well_formed_lem c e (Ok p) i = (whole_from c e, λ r j. well_formed_reply c e r (i r j))
+  well_formed_lem c e (Err u) i = well_formed_reply c e (unheard s (number_of u)) i
+
+-- ── What is returned ────────────────────────────────────────────────────────────────────────────────────────────────
+
+-- by what the checks answered
+module _ (s : Resolver) (good : Bool) (m : List ℕ) (o : Result Passed Refusal) (h : Checked s good m o) where
+  pub passed_long : (p : Passed) → o ≡ Ok p → 12 ≤ length m
+  passed_long p e = (subst (Checked s good m) e h).0
+
+  pub by_passed : (p : Passed) → o ≡ Ok p → (r : Heard) → Hears s p.asking m p.end p.response p.error r → r ≡ read_reply s good m
+  by_passed p e = (subst (Checked s good m) e h).1
+
+  pub by_refusal : (e : Refusal) → o ≡ Err e → unheard s (number_of e) ≡ read_reply s good m
+  by_refusal e i = subst (Checked s good m) i h

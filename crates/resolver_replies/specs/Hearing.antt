@@ -10,22 +10,19 @@ use Rattle.model.specs.declared.Heard.{Heard}
 use Rattle.model.specs.Octets.{put, u16_at, part, reads}
 use Rattle.model.specs.Messages.{Message, read_message}
 use Rattle.model.specs.Tsig.{Tsig, signature}
-use Rattle.model.specs.Resolver.{unheard, only_answer, moved_by, accepted, heard, signed_reply, awaited_reply}
+use Rattle.model.specs.Resolver.{unheard, only_answer, moved_by, accepted, heard, signed_reply, awaited_reply, read_reply}
 use Rattle.tsig.specs.declared.Signer.{Signer}
 use Rattle.tsig.specs.Signature.{shown as signerShown}
+use Rattle.resolver_replies.specs.declared.Passed.{Passed}
 use Rattle.resolver_replies.specs.declared.Refusal.{Refusal}
 use Rattle.resolver_replies.specs.declared.Refusal.TheVariants.{Lost, WrongId, Unsigned, Format}
 
--- The number of a refusal; and what is returned: what was heard, or a refusal, which moves nothing.
+-- The number of a refusal.
 abbrev pub number_of : Refusal → ℕ
 number_of Lost = 1
 number_of WrongId = 2
 number_of Unsigned = 3
 number_of Format = 4
-
-abbrev pub heard_in : Resolver → Result Heard Refusal → Heard
-heard_in s (Ok h) = h
-heard_in s (Err r) = unheard s (number_of r)
 
 -- A key by its name and its other fields.
 abbrev pub key_from : List ℕ → Algorithm → ℕ → ℕ → ResolverKey
@@ -67,3 +64,13 @@ pub record HearsAwaited (s : Resolver) (good : Bool) (m : List ℕ) (end : ℕ) 
       → MessageRead m q end response
       → signature q.records ≡ signerShown m signer
       → r ≡ awaited_reply s s.awaited m good q
+
+-- What the checks answer: how the reading call ends is a refusal, or what hearing the message that passed gives.
+abbrev pub Passes : Resolver → List ℕ → (Heard → Type 0) → Result Passed Refusal → Type 0
+Passes s m ends (Ok p) = (r : Heard) → Hears s p.asking m p.end p.response p.error r → ends r
+Passes s m ends (Err e) = ends (unheard s (number_of e))
+
+-- The same of the whole call; a message that passed has a header.
+abbrev pub Checked : Resolver → Bool → List ℕ → Result Passed Refusal → Type 0
+Checked s good m (Ok p) = (12 ≤ length m) × ((r : Heard) → Hears s p.asking m p.end p.response p.error r → r ≡ read_reply s good m)
+Checked s good m (Err e) = unheard s (number_of e) ≡ read_reply s good m

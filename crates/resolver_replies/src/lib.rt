@@ -2,12 +2,12 @@
 // are equations with the crate model's Resolver.
 #![tactic(auto)]
 
-ghost use Rattle.std.specs.Prelude.{◌≡◌, ◌≤◌, length, take};
+ghost use Rattle.std.specs.Prelude.{ℕ, ◌≡◌, ◌≤◌, List, length};
 ghost use Rattle.model.specs.Names.{algorithm_named};
 ghost use Rattle.model.specs.Resolver.{closed, unheard, offered_by, renewed_in, adopted_by, keyless, moved, is_mode, moved_by, read_reply};
 ghost use Rattle.records.specs.Record.{Within, cut};
 ghost use Rattle.answers.specs.Answer.{answer_from, shown, FoundFits};
-ghost use Rattle.resolver_replies.specs.Hearing.{number_of, heard_in, key_from, offering, adopting, AnswerMoves, Accepts, Hears, HearsSigned, HearsAwaited};
+ghost use Rattle.resolver_replies.specs.Hearing.{number_of, key_from, offering, adopting, AnswerMoves, Accepts, Hears, HearsSigned, HearsAwaited, Passes, Checked};
 
 use answers::{AnswerFields, AnswerFound};
 use contents::Contents;
@@ -196,48 +196,50 @@ fn moved_in(s: Resolver, asking: Asking, m: &[u8], end: usize) -> Resolver
 
 // ── Reading a reply ─────────────────────────────────────────────────────────────────────────────────────────────────
 
-// Closes the request. Only a response with no error in its header and in its TSIG, which is `error`, moves more.
-fn accept(s: Resolver, asking: Asking, m: &[u8], c: &Contents, error: usize) -> Resolver
+// A message past the checks: what it is a reply to, where its questions end, whether it is a response, and the error of its TSIG.
+#[derive(Clone, Copy)]
+struct Passed {
+    asking: Asking,
+    end: usize,
+    response: bool,
+    error: usize,
+}
+
+// Closes the request. Only a response with no error in its header and in its TSIG moves more.
+fn accept(s: Resolver, m: &[u8], passed: &Passed) -> Resolver
     requires { 12 ≤ length m.now }
-    ensures { Accepts s asking m.now c.now.end c.now.response error result }
+    ensures { Accepts s passed.now.asking m.now passed.now.end passed.now.response passed.now.error result }
 {
     let after = close_request(s);
-    if !c.response {
+    if !passed.response {
         return after;
     }
     if octets::wide(m[3]) % 16 != 0 {
         return after;
     }
-    if error != 0 {
+    if passed.error != 0 {
         return after;
     }
-    moved_in(after, asking, m, c.end)
+    moved_in(after, passed.asking, m, passed.end)
 }
 
-// A message past the checks, with this TSIG error; in a reply PartialRevoke says that renewal is due.
-fn hear(s: Resolver, asking: Asking, m: &[u8], c: &Contents, error: usize) -> Heard
+// A message past the checks; in a reply PartialRevoke says that renewal is due.
+fn hear(s: Resolver, m: &[u8], passed: &Passed) -> Heard
     requires { 12 ≤ length m.now }
-    ensures { Hears s asking m.now c.now.end c.now.response error result }
+    ensures { Hears s passed.now.asking m.now passed.now.end passed.now.response passed.now.error result }
 {
-    let state = accept(s, asking, m, c, error);
+    let state = accept(s, m, passed);
     Heard {
         number: 0,
-        due: c.response & (error == 3841),
+        due: passed.response & (passed.error == 3841),
         state,
     }
 }
 
 // UNSIGNED, by how the message is signed, and by the verdict.
-fn hear_signed(
-    s: Resolver,
-    asking: Asking,
-    good: bool,
-    m: &[u8],
-    c: &Contents,
-) -> Result<Heard, Refusal>
-    requires { 12 ≤ length m.now }
-    ensures { HearsSigned s asking good m.now c.now.end c.now.response c.now.signer
-        (heard_in s result) }
+fn check_signed(asking: Asking, good: bool, c: &Contents) -> Result<Passed, Refusal>
+    ensures { (s : Resolver) → (m : List ℕ) → Passes s m
+        (HearsSigned s asking good m c.now.end c.now.response c.now.signer) result }
 {
     match c.signer {
         Signer::Nobody | Signer::Ill => Err(Refusal::Unsigned),
@@ -245,15 +247,21 @@ fn hear_signed(
             if !good {
                 return Err(Refusal::Unsigned);
             }
-            Ok(hear(s, asking, m, c, fields.error))
+            Ok(Passed {
+                asking,
+                end: c.end,
+                response: c.response,
+                error: fields.error,
+            })
         }
     }
 }
 
 // LOST, WRONGID, then as above.
-fn hear_awaited(s: Resolver, good: bool, m: &[u8], c: &Contents) -> Result<Heard, Refusal>
+fn check_awaited(s: &Resolver, good: bool, m: &[u8], c: &Contents) -> Result<Passed, Refusal>
     requires { 12 ≤ length m.now }
-    ensures { HearsAwaited s good m.now c.now.end c.now.response c.now.signer (heard_in s result) }
+    ensures { Passes s.now m.now
+        (HearsAwaited s.now good m.now c.now.end c.now.response c.now.signer) result }
 {
     let Some(request) = s.awaited else {
         return Err(Refusal::Lost);
@@ -262,26 +270,25 @@ fn hear_awaited(s: Resolver, good: bool, m: &[u8], c: &Contents) -> Result<Heard
     if answered != request.id {
         return Err(Refusal::WrongId);
     }
-    hear_signed(s, request.asking, good, m, c)
+    check_signed(request.asking, good, c)
 }
 
-// FORMAT, then as above.
-fn hear_message(s: Resolver, good: bool, m: &[u8]) -> Result<Heard, Refusal>
-    ensures { heard_in s result ≡ read_reply s good m.now }
+// FORMAT, then as above. The state is lent: it is copied once, where the call ends.
+fn check_message(s: &Resolver, good: bool, m: &[u8]) -> Result<Passed, Refusal>
+    ensures { Checked s.now good m.now result }
 {
     match contents::read(m) {
         Err(_) => Err(Refusal::Format),
-        Ok(c) => hear_awaited(s, good, m, &c),
+        Ok(c) => check_awaited(s, good, m, &c),
     }
 }
 
 // Reads a reply: FORMAT, LOST, WRONGID, UNSIGNED, then what it moves; a refusal moves nothing. `good` is the caller's verdict on its MAC and its time.
-#[tactic(auto, unfolding(model::specs::Resolver::unheard))]
 pub fn read_reply(s: Resolver, good: bool, m: &[u8]) -> Heard
     ensures { result ≡ read_reply s good m.now }
 {
-    match hear_message(s, good, m) {
-        Ok(heard) => heard,
+    match check_message(&s, good, m) {
+        Ok(passed) => hear(s, m, &passed),
         Err(refusal) => Heard {
             number: refusal.number(),
             due: false,

@@ -2,10 +2,12 @@
 // of every argument is accepted. The contracts are equations with the crate model's Resolver.
 #![tactic(auto)]
 
-ghost use Rattle.std.specs.Prelude.{◌≡◌, ◌≤◌, length, option_copied};
+ghost use Rattle.std.specs.Prelude.{◌≡◌, ◌≤◌, not, length, option_copied, Ok, Err};
+ghost use Rattle.model.specs.declared.SignWith.TheVariants.{AdoptedKey};
+ghost use Rattle.model.specs.declared.Asking.TheVariants.{Renewal, Adoption, Deletion};
 ghost use Rattle.model.specs.Names.{wire_name};
 ghost use Rattle.model.specs.Resolver.{name_of, usable, adopted_key, offered_key, opened as openedBy, noted, turn, root_or, written_renewal, written_adoption, written_deletion};
-ghost use Rattle.resolver_requests.specs.Sent.{number_of, sending_in, Sent, sent_by};
+ghost use Rattle.resolver_requests.specs.Sent.{number_of, sending_by, Sent};
 
 use model::{Algorithm, Asking, Holding, OpenRequest, Resolver, ResolverKey, Sending, SignWith};
 
@@ -29,19 +31,16 @@ impl Refusal {
     }
 }
 
-// What is returned: a refusal changes no key, and writes nothing.
+// A refusal: no key changes, and nothing is written.
 #[tactic(auto, unfolding(model::specs::Resolver::unwritten))]
-fn answered(s: Resolver, r: Result<Sending, Refusal>) -> Sending
-    ensures { result ≡ sending_in s r }
+fn refused(s: Resolver, refusal: Refusal) -> Sending
+    ensures { (signer : SignWith) → (after : Resolver) → result ≡ sending_by s signer after (Err refusal) }
 {
-    match r {
-        Ok(sending) => sending,
-        Err(refusal) => Sending {
-            number: refusal.number(),
-            length: 0,
-            signer: SignWith::Nobody,
-            state: s,
-        },
+    Sending {
+        number: refusal.number(),
+        length: 0,
+        signer: SignWith::Nobody,
+        state: s,
     }
 }
 
@@ -101,18 +100,16 @@ fn opened(s: Resolver, id: u16, asking: Asking, signs: bool) -> Resolver
     }
 }
 
-// What is returned, by the length that the writer of the request answered; None, no room. `after` is the state with the request open.
-#[tactic(auto, unfolding(model::specs::Resolver::ROOM, crate::specs::Sent::sent_by))]
-fn sent_by(n: Option<usize>, signer: SignWith, after: Resolver) -> Result<Sending, Refusal>
-    ensures { (s : Resolver) → sending_in s result ≡ sent_by s n signer after }
+// A request of this length was written. `after` is the state with the request open.
+fn written(length: usize, signer: SignWith, after: Resolver) -> Sending
+    ensures { (s : Resolver) → result ≡ sending_by s signer after (Ok length) }
 {
-    let length = n.ok_or(Refusal::Room)?;
-    Ok(Sending {
+    Sending {
         number: 0,
         length: length as u64,
         signer,
         state: after,
-    })
+    }
 }
 
 // ── Renewal ─────────────────────────────────────────────────────────────────────────────────────────────────────────
@@ -124,9 +121,10 @@ fn root_or(name: &[u8]) -> &[u8]
     if name.len() == 0 { b"\x00" } else { name }
 }
 
-// NOKEY, ROOM, done.
-fn renewal_open(
-    s: Resolver,
+// NOKEY, ROOM, or the length of what is written. The state is lent, and is copied where the call ends: were this inlined, LLVM would copy it here too.
+#[inline(never)]
+fn renewal_into(
+    s: &Resolver,
     id: u16,
     name: &[u8],
     algorithm: Algorithm,
@@ -134,9 +132,10 @@ fn renewal_open(
     expiration: u32,
     key: &[u8],
     out: &mut [u8],
-) -> Result<Sending, Refusal>
-    ensures { Sent (written_renewal s id name.now algorithm inception expiration key.now (length out.old))
-        out.old out.new (sending_in s result) }
+) -> Result<usize, Refusal>
+    ensures { Sent (written_renewal s.now id name.now algorithm inception expiration key.now (length out.old))
+        out.old out.new
+        (sending_by s.now AdoptedKey (openedBy s.now id Renewal s.now.offered_signs) result) }
 {
     let named = root_or(name);
     if !names::wire_name(named) {
@@ -145,8 +144,8 @@ fn renewal_open(
     if !tkey::is_key_record(key) {
         return Err(Refusal::NoKey);
     }
-    let adopted = adopted_key(&s).ok_or(Refusal::NoKey)?;
-    let n = requests::renewal(
+    let adopted = adopted_key(s).ok_or(Refusal::NoKey)?;
+    requests::renewal(
         out,
         id,
         named,
@@ -156,9 +155,8 @@ fn renewal_open(
         name_of(adopted),
         adopted.algorithm,
         key,
-    );
-    let after = opened(s, id, Asking::Renewal, s.offered_signs);
-    sent_by(n, SignWith::AdoptedKey, after)
+    )
+    .ok_or(Refusal::Room)
 }
 
 // Write a renewal: NAME (the root where name is empty), the algorithm and the interval asked for, and the KEY record, which the caller lends; it is
@@ -176,10 +174,13 @@ pub fn write_renewal(
     ensures { Sent (written_renewal s id name.now algorithm inception expiration key.now (length out.old))
         out.old out.new result }
 {
-    answered(
-        s,
-        renewal_open(s, id, name, algorithm, inception, expiration, key, out),
-    )
+    match renewal_into(&s, id, name, algorithm, inception, expiration, key, out) {
+        Ok(length) => {
+            let after = opened(s, id, Asking::Renewal, s.offered_signs);
+            written(length, SignWith::AdoptedKey, after)
+        }
+        Err(refusal) => refused(s, refusal),
+    }
 }
 
 // ── Adoption ────────────────────────────────────────────────────────────────────────────────────────────────────────
@@ -195,13 +196,15 @@ fn signer_of(signs: bool) -> SignWith
     }
 }
 
-// NOKEY, ROOM, done.
-fn adoption_open(s: Resolver, id: u16, out: &mut [u8]) -> Result<Sending, Refusal>
-    ensures { Sent (written_adoption s id (length out.old)) out.old out.new (sending_in s result) }
+// NOKEY, ROOM, or the length of what is written. Not inlined, as above.
+#[inline(never)]
+fn adoption_into(s: &Resolver, id: u16, out: &mut [u8]) -> Result<usize, Refusal>
+    ensures { Sent (written_adoption s.now id (length out.old)) out.old out.new
+        (sending_by s.now (turn s.now.offered_signs) (openedBy s.now id Adoption (not s.now.offered_signs)) result) }
 {
-    let adopted = adopted_key(&s).ok_or(Refusal::NoKey)?;
-    let offered = offered_key(&s).ok_or(Refusal::NoKey)?;
-    let n = requests::adoption(
+    let adopted = adopted_key(s).ok_or(Refusal::NoKey)?;
+    let offered = offered_key(s).ok_or(Refusal::NoKey)?;
+    requests::adoption(
         out,
         id,
         name_of(offered),
@@ -210,9 +213,8 @@ fn adoption_open(s: Resolver, id: u16, out: &mut [u8]) -> Result<Sending, Refusa
         offered.expiration,
         name_of(adopted),
         adopted.algorithm,
-    );
-    let after = opened(s, id, Asking::Adoption, !s.offered_signs);
-    sent_by(n, signer_of(s.offered_signs), after)
+    )
+    .ok_or(Refusal::Room)
 }
 
 // Write an adoption of the offered key: the very first is signed with the adopted key, the next with the offered one, and so on in turn. Refused, in
@@ -220,26 +222,38 @@ fn adoption_open(s: Resolver, id: u16, out: &mut [u8]) -> Result<Sending, Refusa
 pub fn write_adoption(s: Resolver, id: u16, out: &mut [u8]) -> Sending
     ensures { Sent (written_adoption s id (length out.old)) out.old out.new result }
 {
-    answered(s, adoption_open(s, id, out))
+    match adoption_into(&s, id, out) {
+        Ok(length) => {
+            let after = opened(s, id, Asking::Adoption, !s.offered_signs);
+            written(length, signer_of(s.offered_signs), after)
+        }
+        Err(refusal) => refused(s, refusal),
+    }
 }
 
 // ── Deletion ────────────────────────────────────────────────────────────────────────────────────────────────────────
 
-// NOKEY, ROOM, done.
-fn deletion_open(s: Resolver, id: u16, out: &mut [u8]) -> Result<Sending, Refusal>
-    ensures { Sent (written_deletion s id (length out.old)) out.old out.new (sending_in s result) }
+// NOKEY, ROOM, or the length of what is written. Not inlined, as above.
+#[inline(never)]
+fn deletion_into(s: &Resolver, id: u16, out: &mut [u8]) -> Result<usize, Refusal>
+    ensures { Sent (written_deletion s.now id (length out.old)) out.old out.new
+        (sending_by s.now AdoptedKey (openedBy s.now id Deletion s.now.offered_signs) result) }
 {
-    let adopted = adopted_key(&s).ok_or(Refusal::NoKey)?;
-    let n = requests::deletion(out, id, name_of(adopted), adopted.algorithm);
-    let after = opened(s, id, Asking::Deletion, s.offered_signs);
-    sent_by(n, SignWith::AdoptedKey, after)
+    let adopted = adopted_key(s).ok_or(Refusal::NoKey)?;
+    requests::deletion(out, id, name_of(adopted), adopted.algorithm).ok_or(Refusal::Room)
 }
 
 // Write a deletion of the adopted key, signed with it. Refused, in this order, with NOKEY (6), ROOM (5).
 pub fn write_deletion(s: Resolver, id: u16, out: &mut [u8]) -> Sending
     ensures { Sent (written_deletion s id (length out.old)) out.old out.new result }
 {
-    answered(s, deletion_open(s, id, out))
+    match deletion_into(&s, id, out) {
+        Ok(length) => {
+            let after = opened(s, id, Asking::Deletion, s.offered_signs);
+            written(length, SignWith::AdoptedKey, after)
+        }
+        Err(refusal) => refused(s, refusal),
+    }
 }
 
 // ── The open request ────────────────────────────────────────────────────────────────────────────────────────────────

@@ -28,8 +28,8 @@ fn message_refusal(m: &[u8]) -> Result<(), Refusal>
     let signer = c.signer;
     match signer {
         Signer::Nobody => Ok(()),
-        Signer::Ill
-        | Signer::Key {
+        Signer::Ill => Err(Refusal::Format),
+        Signer::Key {
             place: _,
             fields: _,
         } => Err(Refusal::Format),

@@ -28,7 +28,8 @@ pub fn read_back(m: &[u8]) -> Result<TsigRead, Refusal>
     let c = contents::read(m)?;
     let signer = c.signer;
     match signer {
-        Signer::Nobody | Signer::Ill => Err(Refusal::Format),
+        Signer::Nobody => Err(Refusal::Format),
+        Signer::Ill => Err(Refusal::Format),
         Signer::Key { place, fields } => Ok(TsigRead { place, fields }),
     }
 }

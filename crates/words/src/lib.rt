@@ -2,7 +2,7 @@
 #![tactic(auto)]
 
 ghost use Rattle.std.specs.Prelude.{◌≡◌, ◌*◌, ◌<◌, ◌≤◌, length, IfSome};
-ghost use Rattle.model.specs.Text.{is_word, nibble, number_of, unhex};
+ghost use Rattle.model.specs.Text.{is_word, is_digit, nibble, number_of, unhex};
 ghost use Rattle.words.specs.Reads.{OctetsRead};
 
 // Whether two words are the same.
@@ -10,6 +10,14 @@ pub fn is_word(a: &[u8], b: &[u8]) -> bool
     ensures { result ≡ is_word a.now b.now }
 {
     a == b
+}
+
+// Whether an octet is a decimal digit.
+#[tactic(auto, unfolding(model::specs::Text::is_digit))]
+fn is_digit(c: u8) -> bool
+    ensures { result ≡ is_digit c }
+{
+    matches!(c, b'0'..=b'9')
 }
 
 // A decimal number below 2^64.
@@ -21,7 +29,7 @@ pub fn read_number(w: &[u8]) -> Option<u64>
     }
     let mut n: u64 = 0;
     for c in w {
-        if !c.is_ascii_digit() {
+        if !is_digit(*c) {
             return None;
         }
         n = n.checked_mul(10)?.checked_add(u64::from(*c - b'0'))?;

@@ -1,19 +1,33 @@
 -- `compression::copy` meets its contract. Assumes nothing.
-use Prim.Native.Nat.{◌+◌, ◌-◌}
-use mathlib.Core.Path.{◌≡◌, ap, ◌∙◌}
-use mathlib.Core.List.{◌++◌}
+use Prim.Native.Nat.{ℕ, ◌<◌, ◌+◌}
+use mathlib.Core.Path.{◌≡◌, refl}
+use mathlib.Core.List.{List, ◌++◌, append_assoc, append-nil}
 use native.Mathlib.Omega.{arith}
-use lib.ListN.{length, take, drop, length-drop}
-use borrow.Rule.Slice.PartMut.{same_len_mid}
-use Rattle.std.proofs.lemmas.Slice.{take-put_mid}
-use Rattle.std.proofs.lemmas.List.{length-take-le}
+use native.Mathlib.Nat.{add_assoc, add-zero}
+use native.Mathlib.Numerals.{add-one}
+use borrow.Author.Rules.{rules}
+use lib.ListN.{length, take, drop, set, get_or, length-set, length-drop}
+use lib.Seq.{take-suc-set, take-suc, get_or-drop}
 use Rattle.compression.proofs.copy.Goals as goal
+
+-- one octet more
+more : (m out out₀ : List ℕ) (from to i : ℕ) → from + i < length m → to + i < length out
+    → take (to + i) out ≡ take to out₀ ++ take i (drop from m)
+    → take (to + (i + 1)) (set out (to + i) (get_or m (from + i) 0)) ≡ take to out₀ ++ take (i + 1) (drop from m)
+more m out out₀ from to i hm ho e =
+    let hd : i < length (drop from m) = rw length-drop (omega arith) in
+    rw (← add_assoc to i 1, add-one (to + i), take-suc-set out (to + i) (get_or m (from + i) 0) ho, e, add-one i, take-suc (drop from m) i 0 hd, get_or-drop from m i 0, append_assoc) refl
+
+pub loop-i-init : goal.loop-i-init
+loop-i-init c = (search rules, rw (add-zero, append-nil) refl)
+
+pub loop-i-preserved : goal.loop-i-preserved
+loop-i-preserved c =
+    let a = c.args in
+    (simp length-set c.loop-i.invariant.0, more a.m.now c.loop-i.out a.out.now a.from a.to c.loop-i.i (omega arith) (omega arith) c.loop-i.invariant.1)
 
 pub returns : goal.returns
 returns c =
     let a = c.args in
-    let s = c.copy_from_slice in
-    let k : a.from + a.n - a.from ≡ a.n = omega arith in
-    let e : s.new.self ≡ take a.n (drop a.from a.m.now) = s.ensures.after ∙ ap (λ k. take k (drop a.from a.m.now)) k in
-    let l : length s.new.self ≡ a.n = ap length e ∙ length-take-le a.n (drop a.from a.m.now) (rw length-drop (omega arith)) in
-    (same_len_mid _ _ _ _ (s.ensures.len) ∙ omega arith, take-put_mid a.to (a.to + a.n - a.to) a.out.now s.new.self (a.to + a.n) (omega (arith, l)) (omega arith) ∙ ap (λ x. take a.to a.out.now ++ x) e)
+    let e : c.loop-i.i ≡ a.n = omega arith in
+    (c.loop-i.invariant.0, rw e at c.loop-i.invariant.1)

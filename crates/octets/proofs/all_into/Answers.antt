@@ -1,8 +1,13 @@
--- `octets::all_into` meets its contract. Assumes nothing.
+-- `octets::all_into` meets its contract: the tail from the place on is lent to `put_all`. Assumes nothing.
+use Prim.Native.Nat.{◌+◌}
 use native.Mathlib.Omega.{arith}
-use mathlib.Core.Path.{refl}
-use Rattle.octets.proofs.Laws.{wrote_mid}
+use lib.ListN.{length}
+use Rattle.octets.proofs.Laws.{wrote_tail}
+use borrow.Author.Rules.{rules}
 use Rattle.octets.proofs.all_into.Goals as goal
 
 pub returns : goal.returns
-returns c = (refl, wrote_mid c.args.s.now c.args.buf.now c.args.at c.copy_from_slice.ensures.after (omega arith))
+returns c =
+    let a = c.args in
+    let w = c.put_all in
+    (search rules, wrote_tail a.s.now a.buf.now w.new.buf a.at (a.at + length a.s.now) w.ensures (omega arith) (omega arith))

@@ -1,6 +1,5 @@
 -- `signing::message_refusal` meets its contract. Assumes nothing.
 use mathlib.Core.Path.{refl}
-use mathlib.Core.Logic.{inl, inr}
 use Rattle.std.proofs.lemmas.Result.{err_from_is_err_and}
 use Rattle.signing.proofs.Refusals.{unread, signed_already, unsigned_yet}
 use Rattle.signing.proofs.message_refusal.Goals as goal
@@ -14,8 +13,7 @@ pub returns-in-Nobody : goal.returns-in-Nobody
 returns-in-Nobody c = unsigned_yet _ _ c.read.ensures _ c.in_ok-c.was c.in-Nobody.is
 
 pub returns-in-Ill : goal.returns-in-Ill
-returns-in-Ill c =
-    elim c.in-Ill.is [
-      | inl e ↦ signed_already _ _ c.read.ensures _ c.in_ok-c.was _ e refl
-      | inr e ↦ signed_already _ _ c.read.ensures _ c.in_ok-c.was _ e.2 refl
-    ]
+returns-in-Ill c = signed_already _ _ c.read.ensures _ c.in_ok-c.was _ c.in-Ill.is refl
+
+pub returns-in-Key : goal.returns-in-Key
+returns-in-Key c = signed_already _ _ c.read.ensures _ c.in_ok-c.was _ c.in-Key.is refl

@@ -13,24 +13,28 @@ returns-then-is_empty c = sym (no_digits c.args.w.now (grind arith))
 pub loop-c-init : goal.loop-c-init
 loop-c-init c = digits c.args.w.now (λ e. grind arith)
 
-pub returns-then-not-is_ascii_digit : goal.returns-then-not-is_ascii_digit
+pub returns-then-not-is_digit : goal.returns-then-not-is_digit
 unfolding is_digit
-returns-then-not-is_ascii_digit c =
+returns-then-not-is_digit c =
     let l = c.loop-c in
-    sym (no_digit c.args.w.now l.c-index l.n (omega arith) (sym c.is_ascii_digit.ensures.value ∙ c.if-not-is_ascii_digit.true)) ∙ l.invariant
+    sym (no_digit c.args.w.now l.c-index l.n (omega arith) (sym c.is_digit.ensures ∙ c.if-not-is_digit.true)) ∙ l.invariant
+
+pub overflow_sub-c : goal.overflow_sub-c
+unfolding is_digit
+overflow_sub-c c = let is = sym c.is_digit.ensures ∙ c.if-not-is_digit.false in grind (arith, is)
 
 pub returns-in_err-checked_mul : goal.returns-in_err-checked_mul
 unfolding is_digit
 returns-in_err-checked_mul c =
     let l = c.loop-c in
-    let is = sym c.is_ascii_digit.ensures.value ∙ c.if-not-is_ascii_digit.false in
+    let is = sym c.is_digit.ensures ∙ c.if-not-is_digit.false in
     c.from_residual.ensures ∙ sym (large c.args.w.now l.c-index l.n (omega arith) is (grind (arith, c.in_err-checked_mul.ensures))) ∙ l.invariant
 
 pub returns-in_err-n : goal.returns-in_err-n
 unfolding is_digit
 returns-in_err-n c =
     let l = c.loop-c in
-    let is = sym c.is_ascii_digit.ensures.value ∙ c.if-not-is_ascii_digit.false in
+    let is = sym c.is_digit.ensures ∙ c.if-not-is_digit.false in
     c.from_residual-in_err-n.ensures ∙ sym (large c.args.w.now l.c-index l.n (omega arith) is (grind (arith, c.in_err-n.ensures, c.in_ok-checked_mul.ensures, c.from.ensures))) ∙ l.invariant
 
 pub loop-c-preserved : goal.loop-c-preserved
@@ -38,7 +42,7 @@ unfolding is_digit
 loop-c-preserved c =
     let l = c.loop-c in
     let w = c.args.w.now in
-    let is = sym c.is_ascii_digit.ensures.value ∙ c.if-not-is_ascii_digit.false in
+    let is = sym c.is_digit.ensures ∙ c.if-not-is_digit.false in
     let more : c.in_ok-n.n ≡ l.n * 10 + (get_or w l.c-index 0 - 48) = grind (arith, c.in_ok-n.ensures, c.in_ok-checked_mul.ensures, c.from.ensures) in
     ap (λ n. number_from n (drop (l.c-index + 1) w)) more
     ∙ sym (digit w l.c-index l.n (omega arith) is (grind (arith, c.in_ok-n.ensures, c.in_ok-checked_mul.ensures, c.from.ensures)))

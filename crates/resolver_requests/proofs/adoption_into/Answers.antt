@@ -1,9 +1,9 @@
--- `resolver_requests::adoption_open` meets its contract. Assumes nothing.
+-- `resolver_requests::adoption_into` meets its contract. Assumes nothing.
 use mathlib.Core.Path.{ap, sym, ◌∙◌}
 use Rattle.std.specs.Prelude.{option_copied}
 use Rattle.std.proofs.lemmas.Result.{err_from_is_err_and}
 use Rattle.resolver_requests.proofs.Sent.{no_key, adoption_refused, adoption_unoffered, adoption_sent}
-use Rattle.resolver_requests.proofs.adoption_open.Goals as goal
+use Rattle.resolver_requests.proofs.adoption_into.Goals as goal
 
 pub returns-in_err-adopted : goal.returns-in_err-adopted
 returns-in_err-adopted c =
@@ -20,6 +20,6 @@ returns-in_err-offered c =
 
 pub returns : goal.returns
 returns c =
-    adoption_sent _ _ _ _ (sym c.adopted_key.ensures ∙ ap option_copied c.in_ok-adopted.ensures.ok_part) _ c.name_of-2.ensures.0 _ _ _ _
-    _ (sym c.offered_key.ensures ∙ ap option_copied c.in_ok-offered.ensures.ok_part) _ c.name_of.ensures.0 _
-    c.adoption-n.ensures c.opened-after.ensures c.signer_of.ensures (c.sent_by.ensures _)
+    adoption_sent _ _ _ _ (sym c.adopted_key.ensures ∙ ap option_copied c.in_ok-adopted.ensures.ok_part) _ c.name_of-2.ensures.0 _ _ _
+    c.ok_or-3.ensures.value _ (sym c.offered_key.ensures ∙ ap option_copied c.in_ok-offered.ensures.ok_part) _ c.name_of.ensures.0
+    c.adoption.ensures

@@ -1,9 +1,9 @@
--- `resolver_requests::deletion_open` meets its contract. Assumes nothing.
+-- `resolver_requests::deletion_into` meets its contract. Assumes nothing.
 use mathlib.Core.Path.{ap, sym, ◌∙◌}
 use Rattle.std.specs.Prelude.{option_copied}
 use Rattle.std.proofs.lemmas.Result.{err_from_is_err_and}
 use Rattle.resolver_requests.proofs.Sent.{no_key, deletion_refused, deletion_sent}
-use Rattle.resolver_requests.proofs.deletion_open.Goals as goal
+use Rattle.resolver_requests.proofs.deletion_into.Goals as goal
 
 pub returns-in_err-adopted : goal.returns-in_err-adopted
 returns-in_err-adopted c =
@@ -13,5 +13,5 @@ returns-in_err-adopted c =
 
 pub returns : goal.returns
 returns c =
-    deletion_sent _ _ _ _ (sym c.adopted_key.ensures ∙ ap option_copied c.in_ok-adopted.ensures.ok_part) _ c.name_of.ensures.0 _ _ _ _
-    c.deletion-n.ensures c.opened-after.ensures (c.sent_by.ensures _)
+    deletion_sent _ _ _ _ (sym c.adopted_key.ensures ∙ ap option_copied c.in_ok-adopted.ensures.ok_part) _ c.name_of.ensures.0 _ _ _
+    c.ok_or-2.ensures.value c.deletion.ensures
